@@ -1,0 +1,3 @@
+-- What a loop leaves in a lent list.
+pub mod Over
+pub mod Filled

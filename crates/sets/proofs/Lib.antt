@@ -1,0 +1,4 @@
+-- The laws of sets as words.
+pub mod Words
+pub mod Digits
+pub mod Determined

@@ -1,0 +1,2 @@
+-- Sets of rows as words.
+pub mod Word
