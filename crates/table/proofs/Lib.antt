@@ -1,0 +1,9 @@
+-- The theorems about tables.
+pub mod Divisor
+pub mod Least
+pub mod Frame
+pub mod Steps
+pub mod Ranges
+pub mod Accepted
+pub mod Past
+pub mod Determined

@@ -1,0 +1,7 @@
+-- What a table is, when it is accepted, and which model it makes.
+pub mod Divisor
+pub mod Least
+pub mod Frame
+pub mod Rows
+pub mod Check
+pub mod Meaning
