@@ -1,0 +1,4 @@
+-- The theorems about the first map.
+pub mod Next
+pub mod Framed
+pub mod Determined

@@ -1,0 +1,71 @@
+-- Each turn gives the word of one row more.
+use mathlib.Core.Path.{_≡_, refl, sym, ap, _∙_}
+use mathlib.Core.Bool.{Bool}
+use Prim.Native.Nat.{ℕ, _+_, _-_, _≤_, _<_}
+use native.Mathlib.Omega.{arith}
+use lib.Dec.{ltb}
+use Rattle.model.specs.Windows.{window}
+use Rattle.sets.specs.Word.{word}
+use Rattle.table.specs.Rows.{rowAt}
+use Rattle.table.specs.Meaning.{modelOf}
+use Rattle.firstmap.proofs.Next.{word-zero, word-next}
+use Rattle.firstmap.proofs.first_word.Statement.{statement}
+use Rattle.firstmap.proofs.first_word.Tie as tie
+
+abbrev Inv-loop : tie.InvT-loop
+Inv-loop n s t w₀ i₀ w i = (i ≤ n) × (w ≡ word i (window (modelOf t) s))
+
+abbrev μ-loop : tie.MeasureT-loop
+μ-loop n s t w₀ i₀ w i = n - i
+
+loop-holds : tie.Need-loop-holds Inv-loop μ-loop
+loop-holds c = (omega arith, sym (word-zero _))
+
+mul-row : tie.Need-mul-row Inv-loop μ-loop
+mul-row c = omega arith
+
+element-copy-out-row : tie.Need-element-copy-out-row Inv-loop μ-loop
+element-copy-out-row c = omega arith
+
+in-window-requires : tie.Need-in-window-requires Inv-loop μ-loop
+in-window-requires c κs = c .before .before .before .pre .1 (c .before .before .loop .i) (c .before .loop-test .taken)
+
+with-row-requires : tie.Need-with-row-requires Inv-loop μ-loop
+with-row-requires c κs = tt
+
+add-i : tie.Need-add-i Inv-loop μ-loop
+add-i c = omega arith
+
+loop-less : tie.Need-loop-less Inv-loop μ-loop
+loop-less c = omega arith
+
+loop-again : tie.Need-loop-again Inv-loop μ-loop
+unfolding window
+loop-again c =
+    let st = c .before .before .before .before in
+    let a = st .before .args in
+    let l : st .loop .i < 32 = omega arith in (
+      omega arith,
+      c .with-row .ensures ∙ word-next 32 (st .loop .i) (window (modelOf (a .t1)) (a .s)) l (st .loop .inv .1) (c .before .in-window .ensures),
+    )
+
+returns : tie.Need-returns Inv-loop μ-loop
+returns c =
+    let e : c .before .loop .i ≡ c .before .before .args .n = omega arith in
+    rw e at (c .before .loop .inv .1)
+
+pub first-word-spec : {M : Type 1} → statement M
+first-word-spec =
+    tie.close
+    (tie.spec
+    Inv-loop
+    μ-loop
+    loop-holds
+    mul-row
+    element-copy-out-row
+    in-window-requires
+    with-row-requires
+    add-i
+    loop-less
+    loop-again
+    returns)

@@ -1,0 +1,16 @@
+-- Each branch is one side of the choice.
+use borrow.Author.Needs.{needs}
+use Rattle.firstmap.proofs.with_row.Statement.{statement}
+use Rattle.firstmap.proofs.with_row.Tie as tie
+
+with-requires : tie.Need-with-requires
+with-requires c κs = search needs
+
+returns : tie.Need-returns
+returns c = rw (c .before .if1 .taken) (c .with .ensures)
+
+returns-2 : tie.Need-returns-2
+returns-2 c = search needs
+
+pub with-row-spec : {M : Type 1} → statement M
+with-row-spec = tie.close (tie.spec with-requires returns returns-2)

@@ -1,0 +1,2 @@
+-- What the functions over a frame's slots are given.
+pub mod Framed
