@@ -1,0 +1,138 @@
+-- The rows one after another: from the slots with room to the pinned sets, and from a map to the next.
+use mathlib.Core.Path.{_≡_, refl, sym, ap, ap₂, _∙_}
+use mathlib.Core.Bool.{Bool, true, false, cond, _&&_, _||_, true≢false, false≢true}
+use mathlib.Core.List.{List}
+use mathlib.Core.Logic.{_⊎_, inl, inr, ⊎-elim}
+use Prim.Native.Nat.{ℕ, _+_, _*_, _%_, _≤_, _<_}
+use native.Mathlib.Nat.{one-mul}
+use native.Mathlib.Omega.{arith}
+use lib.Count.{ones}
+use lib.Dec.{leb}
+use lib.ListN.{length, getD}
+use Rattle.model.specs.Sum.{sum, bit}
+use Rattle.model.specs.Model.{Model, Sound, Map}
+use Rattle.model.specs.Pins.{size, pinned}
+use Rattle.model.specs.Depths.{next}
+use Rattle.model.proofs.Sums.{sum-eq}
+use Rattle.model.proofs.Bools.{or-cases, test}
+use Rattle.sets.specs.Word.{word, member, put, upTo}
+use Rattle.sets.proofs.Words.{word-ext, word-none, ones-word, member-word, put-same}
+use Rattle.lists.specs.Over.{Over, Holds, Same}
+use Rattle.lists.proofs.Overs.{over-ext, over-then}
+use Rattle.deepen.specs.Step.{words, Shrinking, Step}
+use Rattle.deepen.specs.First.{inSlot}
+use Rattle.deepen.specs.Passes.{putting, rowPin, rowMap, Both}
+use Rattle.deepen.proofs.Tally.{and-true, and-false}
+use Rattle.deepen.proofs.Pinned.{roomy, row-pinned, row-next}
+use Rattle.deepen.proofs.Mix.{mix, mix-none, mix-all, mix-here, mix-put}
+
+-- the words of a slot before row i's pass
+abbrev pub pinWord : Model → Map → ℕ → ℕ → ℕ
+pinWord M A i s = word (M .rows) (mix i (pinned M A s) (roomy M A s))
+
+abbrev pub mapWord : Model → Map → ℕ → ℕ → ℕ
+mapWord M A i s = word (M .rows) (mix i (next M A s) (A s))
+
+-- a slot and a row that the next map has otherwise
+pub record Differs (M : Model) (A : Map) (h : ℕ) : Type 0 where
+  pub slot : ℕ
+  pub row : ℕ
+  pub in-frame : slot < h
+  pub in-table : row < M .rows
+  pub other : next M A slot row ≡ A slot row → ⊥
+
+-- both lists after the passes of the rows before i
+pub record Passed (M : Model) (A : Map) (i h : ℕ) (pin pin′ map map′ : List ℕ) (changed : Bool) : Type 0 where
+  pub pins : Over (pinWord M A i) 0 h pin pin′
+  pub maps : Over (mapWord M A i) 0 h map map′
+  pub still : changed ≡ false → Same map map′
+  pub moved : changed ≡ true → Differs M A h
+
+still-then : (x y : Bool) {a b c : List ℕ} → (x ≡ false → Same a b) → (y ≡ false → Same b c) → x || y ≡ false → Same a c
+still-then true y p q e = absurd (true≢false e)
+still-then false y p q e = record { at = λ s. q e .at s ∙ p refl .at s }
+
+-- row i's pass, with the row's own numbers
+pub pass-step : (M : Model) (A : Map) (h i : ℕ) → Sound M → i < M .rows → h % M .period i ≡ 0 → Shrinking M h A
+    → {P₀ P P′ A₀ A₁ A′ : List ℕ} {x y : Bool} {t c d : ℕ} → t ≡ M .period i → c ≡ M .execution i → d ≡ M .deadline i
+    → Passed M A i h P₀ P A₀ A₁ x
+    → Both (putting i (rowPin t c d (inSlot i P)) P) (putting i (rowMap t c d (inSlot i P) (inSlot i A₁)) A₁) 0 h P P′ A₁ A′ y
+    → Passed M A (i + 1) h P₀ P′ A₀ A′ (x || y)
+pass-step M A h i G k F S {P₀} {P} {P′} {A₀} {A₁} {A′} {x} {y} et ec ed r q′ = record {
+  pins = over-then (r .pins) (over-ext (q .pins) (λ s z l. ap₂ (put i) (pin-now s l) (r .pins .mid s z l) ∙ mix-put (M .rows) i (pinned M A s) (roomy M A s) k));
+  maps = over-then (r .maps) (over-ext (q .maps) (λ s z l. ap₂ (put i) (map-now s l) (r .maps .mid s z l) ∙ mix-put (M .rows) i (next M A s) (A s) k));
+  still = still-then x y (r .still) (q .told .still);
+  moved = λ e. ⊎-elim (r .moved) here (or-cases x y e);
+}
+  where
+    q : Both (putting i (rowPin (M .period i) (M .execution i) (M .deadline i) (inSlot i P)) P) (putting i (rowMap (M .period i) (M .execution i) (M .deadline i) (inSlot i P) (inSlot i A₁)) A₁) 0 h P P′ A₁ A′ y
+    q = rw (et, ec, ed) at q′
+
+    positive : 0 < M .period i
+    positive = omega (arith, G .some i k, G .room i k, G .apart i k)
+
+    was : (s : ℕ) → s < h → inSlot i A₁ s ≡ A s i
+    was s l = ap (member i) (r .maps .mid s (omega arith) l) ∙ member-word (M .rows) i (mix i (next M A s) (A s)) k ∙ mix-here i (next M A s) (A s)
+
+    agree : (s : ℕ) → s < h → inSlot i P s ≡ roomy M A s i
+    agree s l = ap (member i) (r .pins .mid s (omega arith) l) ∙ member-word (M .rows) i (mix i (pinned M A s) (roomy M A s)) k ∙ mix-here i (pinned M A s) (roomy M A s)
+
+    pin-now : (s : ℕ) → s < h → rowPin (M .period i) (M .execution i) (M .deadline i) (inSlot i P) s ≡ pinned M A s i
+    pin-now s l = row-pinned M A i (inSlot i P) h positive F (G .apart i k) agree s l (S .inside s i l k)
+
+    map-now : (s : ℕ) → s < h → rowMap (M .period i) (M .execution i) (M .deadline i) (inSlot i P) (inSlot i A₁) s ≡ next M A s i
+    map-now s l = row-next M A i (inSlot i P) h positive F (G .apart i k) agree s l (S .inside s i l k) (inSlot i A₁) (was s l) (S .less s i l k)
+
+    here : y ≡ true → Differs M A h
+    here e =
+        let m = q .told .moved e in
+        record {
+          slot = m .slot;
+          row = i;
+          in-frame = m .to;
+          in-table = k;
+          other = λ z. m .other (q .maps .mid (m .slot) (m .from) (m .to) ∙ put-same i (getD A₁ (m .slot) 0) (map-now (m .slot) (m .to) ∙ z ∙ sym (was (m .slot) (m .to))));
+        }
+
+-- the sets of the slots with room, where each row counts for one
+room-word : (M : Model) (A : Map) (s : ℕ) {m w : ℕ} → ((i : ℕ) → M .weight i ≡ 1) → m ≡ M .capacity s → w ≡ word (M .rows) (A s) → upTo m w ≡ pinWord M A 0 s
+unfolding upTo size roomy
+room-word M A s one em ew =
+    rw (em, ew, ones-word (M .rows) (A s), sum-eq (M .rows) {f = λ i. bit (A s i)} {g = λ i. M .weight i * bit (A s i)} (λ i l. sym (ap (λ (z : ℕ). z * bit (A s i)) (one i) ∙ one-mul (bit (A s i)))))
+    (go (leb (size M A s) (M .capacity s)) ∙ word-ext (M .rows) (λ i l. sym (mix-none (pinned M A s) (roomy M A s) i)))
+  where
+    go : (b : Bool) → cond b (word (M .rows) (A s)) 0 ≡ word (M .rows) (λ i. A s i && b)
+    go true = word-ext (M .rows) (λ i l. sym (and-true (A s i)))
+    go false = sym (word-ext (M .rows) (λ i l. and-false (A s i)) ∙ word-none (M .rows))
+
+-- before the first row's pass
+pub first-pass : (M : Model) (A : Map) (h : ℕ) {m : ℕ} {P P′ A₀ : List ℕ} → ((i : ℕ) → M .weight i ≡ 1) → ((s : ℕ) → m ≡ M .capacity s)
+    → Holds (words M A) h A₀ → Over (λ s. upTo m (getD A₀ s 0)) 0 h P P′ → Passed M A 0 h P′ P′ A₀ A₀ false
+first-pass M A h one cap r q = record {
+  pins = record { len = refl; low = λ s l. refl; high = λ s l. refl; mid = λ s z l. q .mid s z l ∙ room-word M A s one (cap s) (r .at s l) };
+  maps = record { len = refl; low = λ s l. refl; high = λ s l. refl; mid = λ s z l. r .at s l ∙ word-ext (M .rows) (λ i k. sym (mix-none (next M A s) (A s) i)) };
+  still = λ e. record { at = λ s. refl };
+  moved = λ e. absurd (false≢true e);
+}
+
+-- after the last one's
+pub last-pass : (M : Model) (A : Map) (h : ℕ) {f : ℕ → ℕ} {P P′ P″ A₀ A′ : List ℕ} {x : Bool} {n : ℕ} → n ≡ M .rows → Holds (words M A) h A₀ → Over f 0 h P P′
+    → Passed M A n h P′ P″ A₀ A′ x → Step M h A A₀ P A′ P″ x
+last-pass M A h {f} {P} {P′} {P″} {A₀} {A′} {x} {n} e held q r′ = record {
+  pinned-sets = over-then q (over-ext (r .pins) (λ s z l. word-ext (M .rows) (mix-all (M .rows) (pinned M A s) (roomy M A s))));
+  next-sets = maps;
+  still = r .still;
+  told = λ z. ⊎-elim (λ t. absurd (same z (r .moved t))) (λ t. t) (test x);
+}
+  where
+    r : Passed M A (M .rows) h P′ P″ A₀ A′ x
+    r = rw e at r′
+
+    maps : Over (words M (next M A)) 0 h A₀ A′
+    maps = over-ext (r .maps) (λ s z l. word-ext (M .rows) (mix-all (M .rows) (next M A s) (A s)))
+
+    same : Same A₀ A′ → Differs M A h → ⊥
+    same z d =
+        d .other (sym (member-word (M .rows) (d .row) (next M A (d .slot)) (d .in-table))
+        ∙ ap (member (d .row)) (sym (maps .mid (d .slot) (omega arith) (d .in-frame)) ∙ z .at (d .slot) ∙ held .at (d .slot) (d .in-frame))
+        ∙ member-word (M .rows) (d .row) (A (d .slot)) (d .in-table))

@@ -1,0 +1,53 @@
+-- A job with too few slots stays as it is; one with enough keeps the first c in both lists.
+use mathlib.Core.Path.{_≡_, refl, sym, ap, _∙_}
+use Prim.Native.Nat.{ℕ, _+_, _≤_, _<_}
+use native.Mathlib.Omega.{arith}
+use Rattle.deepen.proofs.Job.{job-open, job-full}
+use borrow.Author.Needs.{needs}
+use Rattle.deepen.proofs.jobs.job.Statement.{statement}
+use Rattle.deepen.proofs.jobs.job.Tie as tie
+
+count-requires : tie.Need-count-requires
+count-requires c κs = search needs
+
+same-length : tie.Need-same-length
+same-length c = search needs
+
+returns : tie.Need-returns
+returns c = job-open _ _ _ _ _ _ (omega (arith, c .before .count .ensures))
+
+trim-requires : tie.Need-trim-requires
+trim-requires c κs = search needs
+
+add-restrict : tie.Need-add-restrict
+add-restrict c = search needs
+
+restrict-requires : tie.Need-restrict-requires
+restrict-requires c κs = search needs
+
+same-length-2 : tie.Need-same-length-2
+same-length-2 c = search needs
+
+same-length-3 : tie.Need-same-length-3
+same-length-3 c = search needs
+
+returns-2 : tie.Need-returns-2
+returns-2 c =
+    let e = c .before .before .before .before .before .before .before .before .before .before .count .ensures in
+    let r = c .before .before .restrict .ensures in
+    job-full _ _ _ _ _ _ (omega (arith, e, c .before .before .before .before .before .before .before .before .before .if1 .left))
+    (c .before .before .before .before .before .before .before .trim .ensures) (r .0) (r .1)
+
+pub job-spec : {M : Type 1} → statement M
+job-spec =
+    tie.close
+    (tie.spec
+    count-requires
+    same-length
+    returns
+    trim-requires
+    add-restrict
+    restrict-requires
+    same-length-2
+    same-length-3
+    returns-2)

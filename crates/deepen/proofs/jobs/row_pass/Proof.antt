@@ -1,0 +1,88 @@
+-- Each turn takes one job more, from a release to the next.
+use mathlib.Core.Path.{_≡_, refl, sym, ap, _∙_}
+use Prim.Native.Nat.{ℕ, _+_, _-_, _%_, _≤_, _<_}
+use native.Mathlib.Nat.{add-mod-right, zero-mod}
+use native.Mathlib.Omega.{arith}
+use lib.ListN.{length}
+use Rattle.lists.proofs.Overs.{over-none}
+use Rattle.deepen.specs.First.{inSlot}
+use Rattle.deepen.specs.Passes.{putting, rowPin, rowMap, Both}
+use Rattle.deepen.proofs.Told.{told-none}
+use Rattle.deepen.proofs.Row.{release-room, row-step}
+use Rattle.deepen.proofs.jobs.row_pass.Statement.{statement}
+use Rattle.deepen.proofs.jobs.row_pass.Tie as tie
+
+abbrev Inv-loop : tie.InvT-loop
+Inv-loop map₀ pins₀ i period execution deadline h changed₀ from₀ map pins changed from = (from ≤ h) × (from % period ≡ 0) × Both (putting i (rowPin period execution deadline (inSlot i pins₀)) pins₀) (putting i (rowMap period execution deadline (inSlot i pins₀) (inSlot i map₀)) map₀) 0 from pins₀ pins map₀ map changed
+
+abbrev μ-loop : tie.MeasureT-loop
+μ-loop map₀ pins₀ i period execution deadline h changed₀ from₀ map pins changed from = h - from
+
+loop-holds : tie.Need-loop-holds Inv-loop μ-loop
+loop-holds c = (omega arith, zero-mod _, record { pins = over-none _ _ _; maps = over-none _ _ _; told = told-none _ _ })
+
+job-requires : tie.Need-job-requires Inv-loop μ-loop
+job-requires c κs =
+    let st = c .before .before .before in
+    let p = c .before .before .before .before .before .before .pre in
+    let a = c .before .before .before .before .before .before .args in
+    let f : st .loop .from + a .period ≤ a .h = release-room (a .period) (st .loop .from) (a .h) (p .0) (c .before .before .loop-test .taken) (st .loop .inv .1) (p .2) in
+    (omega (arith, st .loop .inv .2 .maps .len), omega (arith, st .loop .inv .2 .pins .len))
+
+either-requires : tie.Need-either-requires Inv-loop μ-loop
+either-requires c κs = tt
+
+add-from : tie.Need-add-from Inv-loop μ-loop
+add-from c =
+    let st = c .before .before .before .before .before .before .before .before .before in
+    let p = c .before .before .before .before .before .before .before .before .before .before .before .before .pre in
+    let a = c .before .before .before .before .before .before .before .before .before .before .before .before .args in
+    let f : st .loop .from + a .period ≤ a .h = release-room (a .period) (st .loop .from) (a .h) (p .0) (c .before .before .before .before .before .before .before .before .loop-test .taken) (st .loop .inv .1) (p .2) in
+    omega arith
+
+loop-less : tie.Need-loop-less Inv-loop μ-loop
+loop-less c =
+    let st = c .before .before .before .before .before .before .before .before .before in
+    let p = c .before .before .before .before .before .before .before .before .before .before .before .before .pre in
+    let a = c .before .before .before .before .before .before .before .before .before .before .before .before .args in
+    let f : st .loop .from + a .period ≤ a .h = release-room (a .period) (st .loop .from) (a .h) (p .0) (c .before .before .before .before .before .before .before .before .loop-test .taken) (st .loop .inv .1) (p .2) in
+    omega arith
+
+loop-again : tie.Need-loop-again Inv-loop μ-loop
+loop-again c =
+    let st = c .before .before .before .before .before .before .before .before .before in
+    let p = c .before .before .before .before .before .before .before .before .before .before .before .before .pre in
+    let a = c .before .before .before .before .before .before .before .before .before .before .before .before .args in
+    let f : st .loop .from + a .period ≤ a .h = release-room (a .period) (st .loop .from) (a .h) (p .0) (c .before .before .before .before .before .before .before .before .loop-test .taken) (st .loop .inv .1) (p .2) in (
+      f,
+      add-mod-right (st .loop .from) (a .period) ∙ st .loop .inv .1,
+      rw (c .either .ensures)
+          (row-step (a .i) (a .period) (a .execution) (a .deadline) (st .loop .from) (p .1) (st .loop .inv .1) (st .loop .inv .2) (c .before .before .before .before .before .job .ensures)),
+    )
+
+same-length : tie.Need-same-length Inv-loop μ-loop
+same-length c = c .before .loop .inv .2 .maps .len
+
+same-length-2 : tie.Need-same-length-2 Inv-loop μ-loop
+same-length-2 c = c .before .loop .inv .2 .pins .len
+
+returns : tie.Need-returns Inv-loop μ-loop
+returns c =
+    let e : c .before .loop .from ≡ c .before .before .before .before .args .h = omega arith in
+    rw e at (c .before .loop .inv .2)
+
+pub row-pass-spec : {M : Type 1} → statement M
+row-pass-spec =
+    tie.close
+    (tie.spec
+    Inv-loop
+    μ-loop
+    loop-holds
+    job-requires
+    either-requires
+    add-from
+    loop-less
+    loop-again
+    same-length
+    same-length-2
+    returns)

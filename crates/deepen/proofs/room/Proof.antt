@@ -1,0 +1,71 @@
+-- Each turn stores the set of one slot more.
+use mathlib.Core.Path.{_≡_, refl, sym, ap, _∙_}
+use Prim.Native.Nat.{ℕ, _+_, _-_, _≤_, _<_}
+use native.Mathlib.Omega.{arith}
+use lib.ListN.{length, getD}
+use Rattle.sets.specs.Word.{upTo}
+use Rattle.lists.specs.Over.{Over}
+use Rattle.lists.proofs.Overs.{over-none, over-more}
+use Rattle.deepen.proofs.room.Statement.{statement}
+use Rattle.deepen.proofs.room.Tie as tie
+
+abbrev Inv-loop : tie.InvT-loop
+Inv-loop map pins₀ h m s₀ pins s = (s ≤ h) × Over (λ k. upTo m (getD map k 0)) 0 s pins₀ pins
+
+abbrev μ-loop : tie.MeasureT-loop
+μ-loop map pins₀ h m s₀ pins s = h - s
+
+loop-holds : tie.Need-loop-holds Inv-loop μ-loop
+loop-holds c = (omega arith, over-none _ _ _)
+
+mul-up-to : tie.Need-mul-up-to Inv-loop μ-loop
+mul-up-to c = omega arith
+
+shared-slice-read-up-to : tie.Need-shared-slice-read-up-to Inv-loop μ-loop
+shared-slice-read-up-to c = omega arith
+
+up-to-requires : tie.Need-up-to-requires Inv-loop μ-loop
+up-to-requires c κs = tt
+
+mul-pins : tie.Need-mul-pins Inv-loop μ-loop
+mul-pins c = omega arith
+
+slice-write-pins : tie.Need-slice-write-pins Inv-loop μ-loop
+slice-write-pins c = omega (arith, c .before .before .before .loop .inv .1 .len)
+
+add-s : tie.Need-add-s Inv-loop μ-loop
+add-s c = omega arith
+
+loop-less : tie.Need-loop-less Inv-loop μ-loop
+loop-less c = omega arith
+
+loop-again : tie.Need-loop-again Inv-loop μ-loop
+loop-again c =
+    let st = c .before .before .before in
+    (omega arith, over-more (st .loop .inv .1) (omega arith) (omega arith) (c .up-to .ensures))
+
+same-length : tie.Need-same-length Inv-loop μ-loop
+same-length c = c .before .loop .inv .1 .len
+
+returns : tie.Need-returns Inv-loop μ-loop
+returns c =
+    let e : c .before .loop .s ≡ c .before .before .before .before .args .h = omega arith in
+    rw e at (c .before .loop .inv .1)
+
+pub room-spec : {M : Type 1} → statement M
+room-spec =
+    tie.close
+    (tie.spec
+    Inv-loop
+    μ-loop
+    loop-holds
+    mul-up-to
+    shared-slice-read-up-to
+    up-to-requires
+    mul-pins
+    slice-write-pins
+    add-s
+    loop-less
+    loop-again
+    same-length
+    returns)

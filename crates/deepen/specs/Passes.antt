@@ -1,0 +1,43 @@
+-- What a job and a row do to the words of the pins and of the map. The pins begin with the rows of the slots that have room.
+use mathlib.Core.Path.{_≡_}
+use mathlib.Core.Bool.{Bool, true, false, cond}
+use mathlib.Core.List.{List}
+use Prim.Native.Nat.{ℕ, _*_, _/_, _%_, _≤_, _<_}
+use lib.Dec.{leb, ltb}
+use lib.ListN.{getD}
+use Rattle.sets.specs.Word.{put}
+use Rattle.lists.specs.Over.{Over, Same}
+use Rattle.deepen.specs.First.{tally, first}
+
+-- the sets of a list, with row i in that of slot s if f says so and not in it otherwise
+abbrev pub putting : ℕ → (ℕ → Bool) → List ℕ → ℕ → ℕ
+putting i f l s = put i (f s) (getD l s 0)
+
+-- a job with execution c and deadline d, released in slot b: the map keeps the first c slots of p where there are as many, and else what it had
+abbrev pub jobMap : ℕ → ℕ → (ℕ → Bool) → (ℕ → Bool) → ℕ → ℕ → Bool
+jobMap c d p a b s = cond (leb c (tally p b d)) (first c p b s) (a s)
+
+-- a row of period t: in each window the pins keep the first c slots
+unfoldable pub rowPin : ℕ → ℕ → ℕ → (ℕ → Bool) → ℕ → Bool
+rowPin t c d p s = cond (ltb (s % t) d) (first c p (s / t * t) s) (p s)
+
+unfoldable pub rowMap : ℕ → ℕ → ℕ → (ℕ → Bool) → (ℕ → Bool) → ℕ → Bool
+rowMap t c d p a s = cond (ltb (s % t) d) (jobMap c d p a (s / t * t) s) (a s)
+
+-- a slot from a to b whose set is another
+pub record Moved (a b : ℕ) (old new : List ℕ) : Type 0 where
+  pub slot : ℕ
+  pub from : a ≤ slot
+  pub to : slot < b
+  pub other : getD new slot 0 ≡ getD old slot 0 → ⊥
+
+-- whether a list changed
+pub record Told (a b : ℕ) (old new : List ℕ) (changed : Bool) : Type 0 where
+  pub still : changed ≡ false → Same old new
+  pub moved : changed ≡ true → Moved a b old new
+
+-- both lists from a to b, and whether the map changed
+pub record Both (f g : ℕ → ℕ) (a b : ℕ) (pin pin′ map map′ : List ℕ) (changed : Bool) : Type 0 where
+  pub pins : Over f a b pin pin′
+  pub maps : Over g a b map map′
+  pub told : Told a b map map′ changed

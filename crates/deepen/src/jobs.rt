@@ -1,0 +1,111 @@
+// What the jobs of a row do to the pins and to the map.
+ghost use mathlib.Core.Path.{_≡_};
+ghost use mathlib.Core.Bool.{Bool, true, false, not, _||_};
+ghost use Prim.Native.Nat.{ℕ, _+_, _*_, _%_, _≤_, _<_};
+ghost use lib.Dec.{eqb};
+ghost use lib.ListN.{length, getD};
+ghost use Rattle.sets.specs.Word.{member, put};
+ghost use Rattle.lists.specs.Over.{Over};
+ghost use Rattle.deepen.specs.First.{inSlot, tally, first};
+ghost use Rattle.deepen.specs.Passes.{putting, jobMap, rowPin, rowMap, Told, Both};
+
+// How many of the len slots from `from` have row i.
+fn count(pins: &[u32], i: usize, from: usize, len: usize) -> usize
+    requires { ⌜ from + len ≤ length (now pins) ⌝ }
+    ensures { λ r. ⌜ r ≡ tally (inSlot i (now (pins .entry))) from len ⌝ }
+{
+    let mut total: usize = 0;
+    let mut o: usize = 0;
+    while o < len {
+        total = total + sets::bit_of(pins[from + o], i);
+        o += 1;
+    }
+    total
+}
+
+// Of the slots that have row i, `total` of them, only the first c keep it.
+fn trim(pins: &mut [u32], i: usize, from: usize, len: usize, c: usize, total: usize)
+    requires { ⌜ (from + len ≤ length (now pins)) × (c ≤ total) × (total ≡ tally (inSlot i (now pins)) from len) ⌝ }
+    ensures { λ _. ⌜ Over (putting i (first c (inSlot i (now (pins .entry))) from) (now (pins .entry))) from (from + len) (now (pins .entry)) (now (pins .exit)) ⌝ }
+{
+    let mut left = total;
+    let mut o = len;
+    while c < left {
+        o -= 1;
+        let w = pins[from + o];
+        left = left - sets::bit_of(w, i);
+        pins[from + o] = sets::without(w, i);
+    }
+}
+
+// Whether a word changed, or an earlier one did.
+fn changed_by(earlier: bool, old: u32, new: u32) -> bool
+    ensures { λ r. ⌜ r ≡ not (eqb new old) || earlier ⌝ }
+{
+    if new == old {
+        return earlier;
+    }
+    true
+}
+
+// In the map, row i is left only where the pins have it. Whether that changes a word.
+fn restrict(map: &mut [u32], pins: &[u32], i: usize, from: usize, to: usize) -> bool
+    requires { ⌜ (from ≤ to) × (to ≤ length (now map)) × (to ≤ length (now pins)) ⌝ }
+    ensures { λ r. ⌜ Over (putting i (inSlot i (now (pins .entry))) (now (map .entry))) from to (now (map .entry)) (now (map .exit)) × Told from to (now (map .entry)) (now (map .exit)) r ⌝ }
+{
+    let mut changed = false;
+    let mut s: usize = from;
+    while s < to {
+        let old = map[s];
+        let new = sets::taking(old, pins[s], i);
+        changed = changed_by(changed, old, new);
+        map[s] = new;
+        s += 1;
+    }
+    changed
+}
+
+// A job of row i with execution c, whose window is the len slots from `from`.
+fn job(map: &mut [u32], pins: &mut [u32], i: usize, from: usize, len: usize, c: usize) -> bool
+    requires { ⌜ (from + len ≤ length (now map)) × (from + len ≤ length (now pins)) ⌝ }
+    ensures { λ r. ⌜ Both (putting i (first c (inSlot i (now (pins .entry))) from) (now (pins .entry))) (putting i (jobMap c len (inSlot i (now (pins .entry))) (inSlot i (now (map .entry))) from) (now (map .entry))) from (from + len) (now (pins .entry)) (now (pins .exit)) (now (map .entry)) (now (map .exit)) r ⌝ }
+{
+    let total = count(pins, i, from, len);
+    if total < c {
+        return false;
+    }
+    trim(pins, i, from, len, c, total);
+    restrict(map, pins, i, from, from + len)
+}
+
+// a or b.
+pub fn either(a: bool, b: bool) -> bool
+    ensures { λ r. ⌜ r ≡ a || b ⌝ }
+{
+    if a {
+        return true;
+    }
+    b
+}
+
+// All jobs of row i in the frame.
+pub fn row_pass(
+    map: &mut [u32],
+    pins: &mut [u32],
+    i: usize,
+    period: usize,
+    execution: usize,
+    deadline: usize,
+    h: usize,
+) -> bool
+    requires { ⌜ (0 < period) × (deadline ≤ period) × (h % period ≡ 0) × (h ≤ length (now map)) × (h ≤ length (now pins)) ⌝ }
+    ensures { λ r. ⌜ Both (putting i (rowPin period execution deadline (inSlot i (now (pins .entry)))) (now (pins .entry))) (putting i (rowMap period execution deadline (inSlot i (now (pins .entry))) (inSlot i (now (map .entry)))) (now (map .entry))) 0 h (now (pins .entry)) (now (pins .exit)) (now (map .entry)) (now (map .exit)) r ⌝ }
+{
+    let mut changed = false;
+    let mut from: usize = 0;
+    while from < h {
+        changed = either(changed, job(map, pins, i, from, deadline, execution));
+        from += period;
+    }
+    changed
+}
