@@ -1,21 +1,20 @@
 -- From one depth to the next, and on to every later one where nothing changed.
-use mathlib.Core.Path.{_≡_, refl, sym, ap, _∙_}
-use mathlib.Core.Bool.{Bool, true, false}
+use mathlib.Core.Path.{_≡_, sym, ap, _∙_}
+use mathlib.Core.Bool.{Bool, false}
 use mathlib.Core.List.{List}
 use Prim.Native.Nat.{ℕ, zero, suc, _+_, _-_, _%_, _≤_, _<_, max}
 use native.Mathlib.Nat.{not-suc-le-zero}
 use native.Mathlib.Numerals.{add-one}
 use native.Mathlib.Omega.{arith}
-use lib.ListN.{length, getD}
-use Rattle.model.specs.Model.{Model, Sound, Map}
+use Rattle.model.specs.Model.{Model, Sound}
 use Rattle.model.specs.Pins.{pinned}
 use Rattle.model.specs.Depths.{next, available, pinnedAt}
 use Rattle.model.proofs.Better.{available-window}
 use Rattle.model.proofs.Shrink.{available-shrinks}
 use Rattle.model.proofs.Stop.{Agree, stop, stop-pins}
-use Rattle.sets.specs.Word.{word, member}
+use Rattle.sets.specs.Word.{member}
 use Rattle.sets.proofs.Words.{word-ext, word-none, member-word}
-use Rattle.lists.specs.Over.{Over, Holds, Same}
+use Rattle.lists.specs.Over.{Over, Holds}
 use Rattle.lists.proofs.Overs.{over-ext, over-then}
 use Rattle.deepen.specs.Step.{words, Shrinking, Step, Deepened, Reached}
 

@@ -8,3 +8,4 @@ pub mod Pinned
 pub mod Mix
 pub mod Pass
 pub mod Depth
+pub mod Determined

@@ -2,14 +2,13 @@
 use mathlib.Core.Path.{_≡_, refl, sym, ap, ap₂, _∙_}
 use mathlib.Core.Bool.{Bool, true, false, cond, _&&_, _||_, true≢false, false≢true}
 use mathlib.Core.List.{List}
-use mathlib.Core.Logic.{_⊎_, inl, inr, ⊎-elim}
-use Prim.Native.Nat.{ℕ, _+_, _*_, _%_, _≤_, _<_}
+use mathlib.Core.Logic.{⊎-elim}
+use Prim.Native.Nat.{ℕ, _+_, _*_, _%_, _<_}
 use native.Mathlib.Nat.{one-mul}
 use native.Mathlib.Omega.{arith}
-use lib.Count.{ones}
 use lib.Dec.{leb}
-use lib.ListN.{length, getD}
-use Rattle.model.specs.Sum.{sum, bit}
+use lib.ListN.{getD}
+use Rattle.model.specs.Sum.{bit}
 use Rattle.model.specs.Model.{Model, Sound, Map}
 use Rattle.model.specs.Pins.{size, pinned}
 use Rattle.model.specs.Depths.{next}
@@ -21,7 +20,7 @@ use Rattle.lists.specs.Over.{Over, Holds, Same}
 use Rattle.lists.proofs.Overs.{over-ext, over-then}
 use Rattle.deepen.specs.Step.{words, Shrinking, Step}
 use Rattle.deepen.specs.First.{inSlot}
-use Rattle.deepen.specs.Passes.{putting, rowPin, rowMap, Both}
+use Rattle.deepen.specs.Passes.{rowPin, rowMap, RowDone}
 use Rattle.deepen.proofs.Tally.{and-true, and-false}
 use Rattle.deepen.proofs.Pinned.{roomy, row-pinned, row-next}
 use Rattle.deepen.proofs.Mix.{mix, mix-none, mix-all, mix-here, mix-put}
@@ -56,7 +55,7 @@ still-then false y p q e = record { at = λ s. q e .at s ∙ p refl .at s }
 pub pass-step : (M : Model) (A : Map) (h i : ℕ) → Sound M → i < M .rows → h % M .period i ≡ 0 → Shrinking M h A
     → {P₀ P P′ A₀ A₁ A′ : List ℕ} {x y : Bool} {t c d : ℕ} → t ≡ M .period i → c ≡ M .execution i → d ≡ M .deadline i
     → Passed M A i h P₀ P A₀ A₁ x
-    → Both (putting i (rowPin t c d (inSlot i P)) P) (putting i (rowMap t c d (inSlot i P) (inSlot i A₁)) A₁) 0 h P P′ A₁ A′ y
+    → RowDone i t c d h P P′ A₁ A′ y
     → Passed M A (i + 1) h P₀ P′ A₀ A′ (x || y)
 pass-step M A h i G k F S {P₀} {P} {P′} {A₀} {A₁} {A′} {x} {y} et ec ed r q′ = record {
   pins = over-then (r .pins) (over-ext (q .pins) (λ s z l. ap₂ (put i) (pin-now s l) (r .pins .mid s z l) ∙ mix-put (M .rows) i (pinned M A s) (roomy M A s) k));
@@ -65,7 +64,7 @@ pass-step M A h i G k F S {P₀} {P} {P′} {A₀} {A₁} {A′} {x} {y} et ec e
   moved = λ e. ⊎-elim (r .moved) here (or-cases x y e);
 }
   where
-    q : Both (putting i (rowPin (M .period i) (M .execution i) (M .deadline i) (inSlot i P)) P) (putting i (rowMap (M .period i) (M .execution i) (M .deadline i) (inSlot i P) (inSlot i A₁)) A₁) 0 h P P′ A₁ A′ y
+    q : RowDone i (M .period i) (M .execution i) (M .deadline i) h P P′ A₁ A′ y
     q = rw (et, ec, ed) at q′
 
     positive : 0 < M .period i

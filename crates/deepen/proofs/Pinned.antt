@@ -1,7 +1,7 @@
 -- A row's passes are the model's: the first C slots of a window that have room are the pinned ones, and a job with C of them keeps those alone.
-use mathlib.Core.Path.{_≡_, refl, sym, ap, ap₂, _∙_}
+use mathlib.Core.Path.{_≡_, refl, sym, ap, _∙_}
 use mathlib.Core.Bool.{Bool, true, false, not, cond, _&&_, _||_}
-use mathlib.Core.Logic.{_⊎_, inl, inr, ⊎-elim}
+use mathlib.Core.Logic.{⊎-elim}
 use Prim.Native.Nat.{ℕ, zero, suc, _+_, _-_, _*_, _/_, _%_, _≤_, _<_, min}
 use native.Mathlib.Nat.{div-add-mod'}
 use native.Mathlib.Omega.{arith}
@@ -15,7 +15,7 @@ use Rattle.model.specs.Depths.{full, next}
 use Rattle.model.proofs.Bools.{clash, lt-or-ge}
 use Rattle.model.proofs.Stop.{frame-room}
 use Rattle.deepen.specs.First.{tally, first}
-use Rattle.deepen.specs.Passes.{jobMap, rowPin, rowMap}
+use Rattle.deepen.specs.Passes.{rowPin, rowMap}
 use Rattle.deepen.proofs.Tally.{tally-zero, tally-suc, tally-ext, first-ext}
 
 -- available, in a slot with room

@@ -1,21 +1,19 @@
 -- The jobs of a row one after another.
-use mathlib.Core.Path.{_≡_, refl, sym, ap, ap₂, _∙_}
-use mathlib.Core.Bool.{Bool, cond, _||_}
+use mathlib.Core.Path.{_≡_, sym, ap, ap₂, _∙_}
+use mathlib.Core.Bool.{Bool, _||_}
 use mathlib.Core.List.{List}
 use Prim.Native.Nat.{ℕ, _+_, _-_, _*_, _/_, _%_, _≤_, _<_}
 use native.Mathlib.Nat.{div-add-mod'}
 use native.Mathlib.Omega.{arith}
 use lib.Arith.{digits-div, digits-mod}
-use lib.Dec.{leb, ltb}
 use lib.ListN.{getD}
 use borrow.Author.Tests.{lt-ltb, le-ltb}
 use Rattle.model.proofs.Stop.{frame-room}
 use Rattle.sets.specs.Word.{member, put}
 use Rattle.sets.proofs.Words.{put-same}
-use Rattle.lists.specs.Over.{Over}
 use Rattle.lists.proofs.Overs.{over-on, over-join}
-use Rattle.deepen.specs.First.{inSlot, tally, first}
-use Rattle.deepen.specs.Passes.{putting, jobMap, rowPin, rowMap, Both}
+use Rattle.deepen.specs.First.{inSlot, first}
+use Rattle.deepen.specs.Passes.{jobMap, rowPin, rowMap, JobDone, RowDone}
 use Rattle.deepen.proofs.Tally.{tally-ext, first-ext}
 use Rattle.deepen.proofs.Told.{told-on, told-join}
 
@@ -34,7 +32,7 @@ slot-of t b s e h l =
     (ap (λ (x : ℕ). x % t) d ∙ digits-mod (b / t) k, ap (λ (x : ℕ). x / t * t) d ∙ ap (λ (x : ℕ). x * t) (digits-div (b / t) k) ∙ starts t b e)
 
 module _ (i t c d b : ℕ) (D : d ≤ t) (B : b % t ≡ 0) {P₀ P A₀ A : List ℕ} {x : Bool}
-    (r : Both (putting i (rowPin t c d (inSlot i P₀)) P₀) (putting i (rowMap t c d (inSlot i P₀) (inSlot i A₀)) A₀) 0 b P₀ P A₀ A x) where
+    (r : RowDone i t c d b P₀ P A₀ A x) where
   pin-here : (s : ℕ) → b ≤ s → s < b + d → rowPin t c d (inSlot i P₀) s ≡ first c (inSlot i P) b s
   unfolding rowPin
   pin-here s h l =
@@ -63,8 +61,8 @@ module _ (i t c d b : ℕ) (D : d ≤ t) (B : b % t ≡ 0) {P₀ P A₀ A : List
 
   -- the job that is released in b, after those before it
   pub row-step : {P′ A′ : List ℕ} {y : Bool}
-      → Both (putting i (first c (inSlot i P) b) P) (putting i (jobMap c d (inSlot i P) (inSlot i A) b) A) b (b + d) P P′ A A′ y
-      → Both (putting i (rowPin t c d (inSlot i P₀)) P₀) (putting i (rowMap t c d (inSlot i P₀) (inSlot i A₀)) A₀) 0 (b + t) P₀ P′ A₀ A′ (x || y)
+      → JobDone i c d b P P′ A A′ y
+      → RowDone i t c d (b + t) P₀ P′ A₀ A′ (x || y)
   row-step {P′} {A′} {y} q = record {
     pins = over-on (over-join (r .pins) (q .pins) (omega arith) (omega arith)
         (λ s h l. ap₂ (λ (z : Bool) (w : ℕ). put i z w) (sym (pin-here s h l)) (r .pins .high s h)))

@@ -1,5 +1,5 @@
 -- Whether a list changed, slot by slot and pass by pass.
-use mathlib.Core.Path.{_≡_, refl, sym, ap, _∙_}
+use mathlib.Core.Path.{_≡_, refl, sym, _∙_}
 use mathlib.Core.Bool.{Bool, true, false, not, _||_, true≢false, false≢true}
 use mathlib.Core.List.{List}
 use Prim.Native.Nat.{ℕ, _+_, _≤_, _<_}
@@ -8,9 +8,9 @@ use lib.Dec.{eqb}
 use lib.ListN.{length, getD, set}
 use lib.Seq.{getD-set-same, getD-set-other}
 use borrow.Author.Tests.{eqb-true, eqb-false}
-use Rattle.lists.specs.Over.{Over, Same}
+use Rattle.lists.specs.Over.{Over}
 use Rattle.lists.proofs.Overs.{same-set}
-use Rattle.deepen.specs.Passes.{Moved, Told}
+use Rattle.deepen.specs.Passes.{Told}
 
 pub told-none : (a : ℕ) (l : List ℕ) → Told a a l l false
 told-none a l = record { still = λ e. record { at = λ s. refl }; moved = λ e. absurd (false≢true e) }

@@ -2,12 +2,12 @@
 use mathlib.Core.Path.{_≡_}
 use mathlib.Core.Bool.{Bool, true, false, cond}
 use mathlib.Core.List.{List}
-use Prim.Native.Nat.{ℕ, _*_, _/_, _%_, _≤_, _<_}
+use Prim.Native.Nat.{ℕ, _+_, _*_, _/_, _%_, _≤_, _<_}
 use lib.Dec.{leb, ltb}
 use lib.ListN.{getD}
 use Rattle.sets.specs.Word.{put}
 use Rattle.lists.specs.Over.{Over, Same}
-use Rattle.deepen.specs.First.{tally, first}
+use Rattle.deepen.specs.First.{inSlot, tally, first}
 
 -- the sets of a list, with row i in that of slot s if f says so and not in it otherwise
 abbrev pub putting : ℕ → (ℕ → Bool) → List ℕ → ℕ → ℕ
@@ -21,6 +21,7 @@ jobMap c d p a b s = cond (leb c (tally p b d)) (first c p b s) (a s)
 unfoldable pub rowPin : ℕ → ℕ → ℕ → (ℕ → Bool) → ℕ → Bool
 rowPin t c d p s = cond (ltb (s % t) d) (first c p (s / t * t) s) (p s)
 
+-- and the map has what each job leaves of it
 unfoldable pub rowMap : ℕ → ℕ → ℕ → (ℕ → Bool) → (ℕ → Bool) → ℕ → Bool
 rowMap t c d p a s = cond (ltb (s % t) d) (jobMap c d p a (s / t * t) s) (a s)
 
@@ -41,3 +42,15 @@ pub record Both (f g : ℕ → ℕ) (a b : ℕ) (pin pin′ map map′ : List �
   pub pins : Over f a b pin pin′
   pub maps : Over g a b map map′
   pub told : Told a b map map′ changed
+
+-- after a job of row i with execution c and deadline d, released in slot b
+abbrev pub JobDone : ℕ → ℕ → ℕ → ℕ → List ℕ → List ℕ → List ℕ → List ℕ → Bool → Type 0
+JobDone i c d b pin pin′ map map′ changed =
+    Both (putting i (first c (inSlot i pin) b) pin) (putting i (jobMap c d (inSlot i pin) (inSlot i map) b) map)
+    b (b + d) pin pin′ map map′ changed
+
+-- after the jobs of row i, of period t, that are released before slot h
+abbrev pub RowDone : ℕ → ℕ → ℕ → ℕ → ℕ → List ℕ → List ℕ → List ℕ → List ℕ → Bool → Type 0
+RowDone i t c d h pin pin′ map map′ changed =
+    Both (putting i (rowPin t c d (inSlot i pin)) pin) (putting i (rowMap t c d (inSlot i pin) (inSlot i map)) map)
+    0 h pin pin′ map map′ changed

@@ -1,13 +1,12 @@
 // What the jobs of a row do to the pins and to the map.
 ghost use mathlib.Core.Path.{_≡_};
-ghost use mathlib.Core.Bool.{Bool, true, false, not, _||_};
-ghost use Prim.Native.Nat.{ℕ, _+_, _*_, _%_, _≤_, _<_};
+ghost use mathlib.Core.Bool.{true, false, not, _||_};
+ghost use Prim.Native.Nat.{_+_, _%_, _≤_, _<_};
 ghost use lib.Dec.{eqb};
-ghost use lib.ListN.{length, getD};
-ghost use Rattle.sets.specs.Word.{member, put};
+ghost use lib.ListN.{length};
 ghost use Rattle.lists.specs.Over.{Over};
 ghost use Rattle.deepen.specs.First.{inSlot, tally, first};
-ghost use Rattle.deepen.specs.Passes.{putting, jobMap, rowPin, rowMap, Told, Both};
+ghost use Rattle.deepen.specs.Passes.{putting, Told, JobDone, RowDone};
 
 // How many of the len slots from `from` have row i.
 fn count(pins: &[u32], i: usize, from: usize, len: usize) -> usize
@@ -68,7 +67,7 @@ fn restrict(map: &mut [u32], pins: &[u32], i: usize, from: usize, to: usize) -> 
 // A job of row i with execution c, whose window is the len slots from `from`.
 fn job(map: &mut [u32], pins: &mut [u32], i: usize, from: usize, len: usize, c: usize) -> bool
     requires { ⌜ (from + len ≤ length (now map)) × (from + len ≤ length (now pins)) ⌝ }
-    ensures { λ r. ⌜ Both (putting i (first c (inSlot i (now (pins .entry))) from) (now (pins .entry))) (putting i (jobMap c len (inSlot i (now (pins .entry))) (inSlot i (now (map .entry))) from) (now (map .entry))) from (from + len) (now (pins .entry)) (now (pins .exit)) (now (map .entry)) (now (map .exit)) r ⌝ }
+    ensures { λ r. ⌜ JobDone i c len from (now (pins .entry)) (now (pins .exit)) (now (map .entry)) (now (map .exit)) r ⌝ }
 {
     let total = count(pins, i, from, len);
     if total < c {
@@ -99,7 +98,7 @@ pub fn row_pass(
     h: usize,
 ) -> bool
     requires { ⌜ (0 < period) × (deadline ≤ period) × (h % period ≡ 0) × (h ≤ length (now map)) × (h ≤ length (now pins)) ⌝ }
-    ensures { λ r. ⌜ Both (putting i (rowPin period execution deadline (inSlot i (now (pins .entry)))) (now (pins .entry))) (putting i (rowMap period execution deadline (inSlot i (now (pins .entry))) (inSlot i (now (map .entry)))) (now (map .entry))) 0 h (now (pins .entry)) (now (pins .exit)) (now (map .entry)) (now (map .exit)) r ⌝ }
+    ensures { λ r. ⌜ RowDone i period execution deadline h (now (pins .entry)) (now (pins .exit)) (now (map .entry)) (now (map .exit)) r ⌝ }
 {
     let mut changed = false;
     let mut from: usize = 0;

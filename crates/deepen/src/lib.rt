@@ -1,7 +1,7 @@
 // One depth further, in place: the pins of a depth and the map of the next.
 ghost use mathlib.Core.Path.{_≡_};
-ghost use mathlib.Core.Bool.{Bool, true, false};
-ghost use Prim.Native.Nat.{ℕ, _+_, _-_, _≤_, _<_};
+ghost use mathlib.Core.Bool.{false};
+ghost use Prim.Native.Nat.{_≤_, _<_};
 ghost use lib.ListN.{length, getD};
 ghost use Rattle.model.specs.Depths.{available};
 ghost use Rattle.sets.specs.Word.{upTo};

@@ -10,4 +10,5 @@ pub mod Frames
 pub mod Stop
 pub mod Least
 pub mod Tests
+pub mod Determined
 pub mod Examples

@@ -1,4 +1,3 @@
 -- The laws of sets as words.
 pub mod Words
 pub mod Digits
-pub mod Determined

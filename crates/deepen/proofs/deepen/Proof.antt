@@ -1,9 +1,9 @@
 -- Each turn takes one row more from the slots with room to its pins, and from the map to the next.
-use mathlib.Core.Path.{_≡_, refl, sym, ap, _∙_}
-use Prim.Native.Nat.{ℕ, _+_, _-_, _%_, _≤_, _<_}
+use mathlib.Core.Path.{_≡_, refl, ap, _∙_}
+use Prim.Native.Nat.{ℕ, _-_, _%_, _≤_, _<_}
 use native.Mathlib.Omega.{arith}
 use lib.ListN.{length}
-use Rattle.model.specs.Model.{Model, Map}
+use Rattle.model.specs.Model.{Map}
 use Rattle.lists.specs.Over.{Holds}
 use Rattle.table.specs.Meaning.{modelOf}
 use Rattle.deepen.specs.Step.{words, Shrinking}
@@ -50,15 +50,19 @@ long-requires-3 c κs = tt
 row-pass-requires : tie.Need-row-pass-requires Inv-loop μ-loop
 row-pass-requires c κs =
     let st = c .before .before .before .before .before .before .before in
-    let p = c .before .before .before .before .before .before .before .before .before .before .before .before .before .before .before .before .before .pre in
+    let start = st .before .before .before .before .before .before .before .before .before .before in
+    let given = start .pre in
     let i = st .loop .i in
-    let k : i < c .before .before .before .before .before .before .before .before .before .before .before .before .before .before .before .before .before .args .t1 .count = omega (arith, c .before .before .before .before .before .before .before .before .size .ensures, c .before .before .before .before .before .before .loop-test .taken) in
+    let k : i < start .args .t1 .count = omega (arith, st .before .size .ensures, c .before .before .before .before .before .before .loop-test .taken) in
+    let some = given .0 .sound .some i k in
+    let room = given .0 .sound .room i k in
+    let apart = given .0 .sound .apart i k in
     let e = c .before .before .long .ensures in (
-      omega (arith, e, p .0 .sound .some i k, p .0 .sound .room i k, p .0 .sound .apart i k),
-      omega (arith, e, c .long3 .ensures, p .0 .sound .apart i k),
-      ap (λ (x : ℕ). c .before .before .before .before .before .before .before .before .before .before .before .before .before .before .before .before .before .args .h % x) e ∙ p .0 .whole i k,
-      omega (arith, st .loop .inv .1, p .1),
-      omega (arith, st .loop .inv .2, c .before .before .before .before .before .before .before .before .before .before .before .room .ensures .len, p .2),
+      omega (arith, e),
+      omega (arith, e, c .long3 .ensures),
+      ap (λ (x : ℕ). start .args .h % x) e ∙ given .0 .whole i k,
+      omega (arith, st .loop .inv .1, given .1),
+      omega (arith, st .loop .inv .2, st .before .before .before .before .room .ensures .len, given .2),
     )
 
 either-requires : tie.Need-either-requires Inv-loop μ-loop
@@ -73,16 +77,20 @@ loop-less c = omega arith
 loop-again : tie.Need-loop-again Inv-loop μ-loop
 loop-again c =
     let st = c .before .before .before .before .before .before .before .before .before .before .before .before .before in
-    let p = c .before .before .before .before .before .before .before .before .before .before .before .before .before .before .before .before .before .before .before .before .before .before .before .pre in
+    let start = st .before .before .before .before .before .before .before .before .before .before in
+    let framed = start .pre .0 in
     let i = st .loop .i in
-    let k : i < c .before .before .before .before .before .before .before .before .before .before .before .before .before .before .before .before .before .before .before .before .before .before .before .args .t1 .count = omega (arith, c .before .before .before .before .before .before .before .before .before .before .before .before .before .before .size .ensures, c .before .before .before .before .before .before .before .before .before .before .before .before .loop-test .taken) in
+    let k : i < start .args .t1 .count = omega (arith, st .before .size .ensures, c .before .before .before .before .before .before .before .before .before .before .before .before .loop-test .taken) in
+    let long3 = c .before .before .before .before .before .before in
     let q = c .before .before .before .before .before .row-pass .ensures in (
       omega arith,
       q .maps .len ∙ st .loop .inv .1,
       q .pins .len ∙ st .loop .inv .2,
       λ A S held.
           rw (c .either .ensures)
-          (pass-step _ A _ i (p .0 .sound) k (p .0 .whole i k) S (c .before .before .before .before .before .before .before .before .long .ensures) (c .before .before .before .before .before .before .before .long2 .ensures) (c .before .before .before .before .before .before .long3 .ensures) (st .loop .inv .3 A S held) q),
+          (pass-step _ A _ i (framed .sound) k (framed .whole i k) S
+          (long3 .before .before .long .ensures) (long3 .before .long2 .ensures) (long3 .long3 .ensures)
+          (st .loop .inv .3 A S held) q),
     )
 
 same-length : tie.Need-same-length Inv-loop μ-loop

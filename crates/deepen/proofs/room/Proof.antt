@@ -1,8 +1,8 @@
 -- Each turn stores the set of one slot more.
-use mathlib.Core.Path.{_≡_, refl, sym, ap, _∙_}
-use Prim.Native.Nat.{ℕ, _+_, _-_, _≤_, _<_}
+use mathlib.Core.Path.{_≡_}
+use Prim.Native.Nat.{_-_, _≤_}
 use native.Mathlib.Omega.{arith}
-use lib.ListN.{length, getD}
+use lib.ListN.{getD}
 use Rattle.sets.specs.Word.{upTo}
 use Rattle.lists.specs.Over.{Over}
 use Rattle.lists.proofs.Overs.{over-none, over-more}

@@ -1,8 +1,7 @@
 -- Each turn stores one zero more.
-use mathlib.Core.Path.{_≡_, refl, sym, ap, _∙_}
-use Prim.Native.Nat.{ℕ, _+_, _-_, _≤_, _<_}
+use mathlib.Core.Path.{_≡_, refl}
+use Prim.Native.Nat.{_-_, _≤_}
 use native.Mathlib.Omega.{arith}
-use lib.ListN.{length, getD}
 use Rattle.lists.specs.Over.{Over}
 use Rattle.lists.proofs.Overs.{over-none, over-more}
 use Rattle.deepen.proofs.zero.Statement.{statement}

@@ -1,8 +1,7 @@
 -- Each turn stores the word of one slot more; the windows are the available sets of depth 1.
-use mathlib.Core.Path.{_≡_, refl, sym, ap, _∙_}
-use Prim.Native.Nat.{ℕ, _+_, _-_, _≤_, _<_}
+use mathlib.Core.Path.{_≡_}
+use Prim.Native.Nat.{_-_, _≤_, _<_}
 use native.Mathlib.Omega.{arith}
-use lib.ListN.{length}
 use Rattle.model.specs.Windows.{window}
 use Rattle.model.specs.Depths.{available}
 use Rattle.sets.specs.Word.{word}

@@ -1,12 +1,9 @@
 -- Each turn gives the word of one row more.
-use mathlib.Core.Path.{_≡_, refl, sym, ap, _∙_}
-use mathlib.Core.Bool.{Bool}
-use Prim.Native.Nat.{ℕ, _+_, _-_, _≤_, _<_}
+use mathlib.Core.Path.{_≡_, sym, _∙_}
+use Prim.Native.Nat.{_-_, _≤_, _<_}
 use native.Mathlib.Omega.{arith}
-use lib.Dec.{ltb}
 use Rattle.model.specs.Windows.{window}
 use Rattle.sets.specs.Word.{word}
-use Rattle.table.specs.Rows.{rowAt}
 use Rattle.table.specs.Meaning.{modelOf}
 use Rattle.firstmap.proofs.Next.{word-zero, word-next}
 use Rattle.firstmap.proofs.first_word.Statement.{statement}

@@ -1,6 +1,4 @@
 -- Each branch is one answer of the test.
-use mathlib.Core.Path.{_≡_, refl, sym, ap, _∙_}
-use lib.Dec.{eqb}
 use borrow.Author.Tests.{eq-eqb, ne-eqb}
 use Rattle.deepen.proofs.jobs.changed_by.Statement.{statement}
 use Rattle.deepen.proofs.jobs.changed_by.Tie as tie

@@ -1,9 +1,7 @@
 -- Each turn counts one slot more.
-use mathlib.Core.Path.{_≡_, refl, sym, ap₂, _∙_}
-use Prim.Native.Nat.{ℕ, _+_, _-_, _≤_, _<_}
+use mathlib.Core.Path.{_≡_, sym, ap₂, _∙_}
+use Prim.Native.Nat.{_+_, _-_, _≤_}
 use native.Mathlib.Omega.{arith}
-use lib.ListN.{length, getD}
-use Rattle.model.specs.Sum.{bit}
 use Rattle.deepen.specs.First.{inSlot, tally}
 use Rattle.deepen.proofs.Tally.{bit-small, tally-zero, tally-more}
 use Rattle.deepen.proofs.jobs.count.Statement.{statement}

@@ -1,35 +1,35 @@
 -- A job with too few slots stays as it is; one with enough keeps the first c in both lists.
-use mathlib.Core.Path.{_≡_, refl, sym, ap, _∙_}
-use Prim.Native.Nat.{ℕ, _+_, _≤_, _<_}
+use mathlib.Core.Path.{refl}
 use native.Mathlib.Omega.{arith}
 use Rattle.deepen.proofs.Job.{job-open, job-full}
-use borrow.Author.Needs.{needs}
 use Rattle.deepen.proofs.jobs.job.Statement.{statement}
 use Rattle.deepen.proofs.jobs.job.Tie as tie
 
 count-requires : tie.Need-count-requires
-count-requires c κs = search needs
+count-requires c κs = c .before .before .before .pre .1
 
 same-length : tie.Need-same-length
-same-length c = search needs
+same-length c = refl
 
 returns : tie.Need-returns
 returns c = job-open _ _ _ _ _ _ (omega (arith, c .before .count .ensures))
 
 trim-requires : tie.Need-trim-requires
-trim-requires c κs = search needs
+trim-requires c κs = (c .before .before .before .before .before .before .pre .1, c .before .if1 .left, c .before .before .count .ensures)
 
 add-restrict : tie.Need-add-restrict
-add-restrict c = search needs
+add-restrict c = omega arith
 
 restrict-requires : tie.Need-restrict-requires
-restrict-requires c κs = search needs
+restrict-requires c κs =
+    let start = c .before .before .before .before .before .before .before .before .before .before .before in
+    (omega arith, start .pre .0, omega (arith, start .pre .1, c .before .before .before .before .trim .ensures .len))
 
 same-length-2 : tie.Need-same-length-2
-same-length-2 c = search needs
+same-length-2 c = c .before .before .restrict .ensures .0 .len
 
 same-length-3 : tie.Need-same-length-3
-same-length-3 c = search needs
+same-length-3 c = c .before .before .before .before .before .before .before .trim .ensures .len
 
 returns-2 : tie.Need-returns-2
 returns-2 c =

@@ -1,19 +1,18 @@
 -- Each turn takes one job more, from a release to the next.
-use mathlib.Core.Path.{_≡_, refl, sym, ap, _∙_}
-use Prim.Native.Nat.{ℕ, _+_, _-_, _%_, _≤_, _<_}
+use mathlib.Core.Path.{_≡_, _∙_}
+use Prim.Native.Nat.{_+_, _-_, _%_, _≤_}
 use native.Mathlib.Nat.{add-mod-right, zero-mod}
 use native.Mathlib.Omega.{arith}
-use lib.ListN.{length}
 use Rattle.lists.proofs.Overs.{over-none}
-use Rattle.deepen.specs.First.{inSlot}
-use Rattle.deepen.specs.Passes.{putting, rowPin, rowMap, Both}
+use Rattle.deepen.specs.Passes.{RowDone}
 use Rattle.deepen.proofs.Told.{told-none}
 use Rattle.deepen.proofs.Row.{release-room, row-step}
 use Rattle.deepen.proofs.jobs.row_pass.Statement.{statement}
 use Rattle.deepen.proofs.jobs.row_pass.Tie as tie
 
 abbrev Inv-loop : tie.InvT-loop
-Inv-loop map₀ pins₀ i period execution deadline h changed₀ from₀ map pins changed from = (from ≤ h) × (from % period ≡ 0) × Both (putting i (rowPin period execution deadline (inSlot i pins₀)) pins₀) (putting i (rowMap period execution deadline (inSlot i pins₀) (inSlot i map₀)) map₀) 0 from pins₀ pins map₀ map changed
+Inv-loop map₀ pins₀ i period execution deadline h changed₀ from₀ map pins changed from =
+    (from ≤ h) × (from % period ≡ 0) × RowDone i period execution deadline from pins₀ pins map₀ map changed
 
 abbrev μ-loop : tie.MeasureT-loop
 μ-loop map₀ pins₀ i period execution deadline h changed₀ from₀ map pins changed from = h - from
@@ -21,43 +20,39 @@ abbrev μ-loop : tie.MeasureT-loop
 loop-holds : tie.Need-loop-holds Inv-loop μ-loop
 loop-holds c = (omega arith, zero-mod _, record { pins = over-none _ _ _; maps = over-none _ _ _; told = told-none _ _ })
 
+-- the whole period from a release on lies in the frame
+fits : (c : tie.In-loop Inv-loop μ-loop) → c .before .loop .from + c .before .before .before .before .args .period ≤ c .before .before .before .before .args .h
+fits c =
+    let st = c .before in
+    let start = st .before .before .before in
+    release-room (start .args .period) (st .loop .from) (start .args .h) (start .pre .0) (c .loop-test .taken) (st .loop .inv .1) (start .pre .2)
+
 job-requires : tie.Need-job-requires Inv-loop μ-loop
 job-requires c κs =
-    let st = c .before .before .before in
-    let p = c .before .before .before .before .before .before .pre in
-    let a = c .before .before .before .before .before .before .args in
-    let f : st .loop .from + a .period ≤ a .h = release-room (a .period) (st .loop .from) (a .h) (p .0) (c .before .before .loop-test .taken) (st .loop .inv .1) (p .2) in
-    (omega (arith, st .loop .inv .2 .maps .len), omega (arith, st .loop .inv .2 .pins .len))
+    let at = c .before .before in
+    let done = at .before .loop .inv .2 in
+    let f = fits at in
+    (omega (arith, done .maps .len), omega (arith, done .pins .len))
 
 either-requires : tie.Need-either-requires Inv-loop μ-loop
 either-requires c κs = tt
 
 add-from : tie.Need-add-from Inv-loop μ-loop
-add-from c =
-    let st = c .before .before .before .before .before .before .before .before .before in
-    let p = c .before .before .before .before .before .before .before .before .before .before .before .before .pre in
-    let a = c .before .before .before .before .before .before .before .before .before .before .before .before .args in
-    let f : st .loop .from + a .period ≤ a .h = release-room (a .period) (st .loop .from) (a .h) (p .0) (c .before .before .before .before .before .before .before .before .loop-test .taken) (st .loop .inv .1) (p .2) in
-    omega arith
+add-from c = omega (arith, fits (c .before .before .before .before .before .before .before .before))
 
 loop-less : tie.Need-loop-less Inv-loop μ-loop
-loop-less c =
-    let st = c .before .before .before .before .before .before .before .before .before in
-    let p = c .before .before .before .before .before .before .before .before .before .before .before .before .pre in
-    let a = c .before .before .before .before .before .before .before .before .before .before .before .before .args in
-    let f : st .loop .from + a .period ≤ a .h = release-room (a .period) (st .loop .from) (a .h) (p .0) (c .before .before .before .before .before .before .before .before .loop-test .taken) (st .loop .inv .1) (p .2) in
-    omega arith
+loop-less c = omega (arith, fits (c .before .before .before .before .before .before .before .before))
 
 loop-again : tie.Need-loop-again Inv-loop μ-loop
 loop-again c =
-    let st = c .before .before .before .before .before .before .before .before .before in
-    let p = c .before .before .before .before .before .before .before .before .before .before .before .before .pre in
-    let a = c .before .before .before .before .before .before .before .before .before .before .before .before .args in
-    let f : st .loop .from + a .period ≤ a .h = release-room (a .period) (st .loop .from) (a .h) (p .0) (c .before .before .before .before .before .before .before .before .loop-test .taken) (st .loop .inv .1) (p .2) in (
-      f,
+    let at = c .before .before .before .before .before .before .before .before in
+    let st = at .before in
+    let start = st .before .before .before in
+    let a = start .args in (
+      fits at,
       add-mod-right (st .loop .from) (a .period) ∙ st .loop .inv .1,
       rw (c .either .ensures)
-          (row-step (a .i) (a .period) (a .execution) (a .deadline) (st .loop .from) (p .1) (st .loop .inv .1) (st .loop .inv .2) (c .before .before .before .before .before .job .ensures)),
+          (row-step (a .i) (a .period) (a .execution) (a .deadline) (st .loop .from) (start .pre .1) (st .loop .inv .1) (st .loop .inv .2) (c .before .before .before .before .before .job .ensures)),
     )
 
 same-length : tie.Need-same-length Inv-loop μ-loop

@@ -1,14 +1,14 @@
 -- Each turn clears one slot more, from the end, and keeps count of what is left before it.
-use mathlib.Core.Path.{_≡_, refl, sym, ap, _∙_}
-use Prim.Native.Nat.{ℕ, _+_, _-_, _≤_, _<_}
+use mathlib.Core.Path.{_≡_, sym, ap, _∙_}
+use Prim.Native.Nat.{ℕ, _+_, _-_, _≤_}
 use native.Mathlib.Omega.{arith}
-use lib.ListN.{length, getD}
-use mathlib.Core.Bool.{Bool, false}
+use lib.ListN.{getD}
+use mathlib.Core.Bool.{false}
 use Rattle.model.specs.Sum.{bit}
 use Rattle.sets.specs.Word.{member, put}
 use Rattle.lists.specs.Over.{Over}
 use Rattle.lists.proofs.Overs.{over-none}
-use Rattle.deepen.specs.First.{inSlot, tally, first}
+use Rattle.deepen.specs.First.{inSlot, tally}
 use Rattle.deepen.specs.Passes.{putting}
 use Rattle.deepen.proofs.Tally.{bit-small, tally-le, tally-last}
 use Rattle.deepen.proofs.Trim.{over-before, trimmed}

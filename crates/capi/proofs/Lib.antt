@@ -1,0 +1,8 @@
+-- The laws behind the C functions.
+pub mod Reading
+pub mod Upto
+pub mod Threes
+pub mod Table
+pub mod Outcomes
+pub mod Determined
+pub mod Again

@@ -1,0 +1,32 @@
+-- A table as it is lent and as it is given back: m, x, count, and three numbers a row.
+use Prim.Native.Nat.{ℕ, zero, suc, _+_, _*_}
+use mathlib.Core.List.{List, [], _∷_, _++_}
+use lib.ListN.{getD}
+use Rattle.table.specs.declared.Row.{Row}
+use Rattle.table.specs.declared.Table.{Table}
+
+abbrev pub rowGiven : ℕ → ℕ → ℕ → Row
+rowGiven T C D = record { period = T; execution = C; deadline = D }
+
+-- row i of a lent list: T, C and D of each row in turn, and 0 for what is past the list's end
+unfoldable pub rowOf : List ℕ → ℕ → Row
+rowOf l i = rowGiven (getD l (3 * i) 0) (getD l (3 * i + 1) 0) (getD l (3 * i + 2) 0)
+
+-- its first k rows
+unfoldable pub rowsOf : List ℕ → ℕ → List Row
+rowsOf l zero = []
+rowsOf l (suc k) = rowsOf l k ++ (rowOf l k ∷ [])
+
+-- the table that is lent: "room for 32 rows", so numbers past the 96th are not looked at
+unfoldable pub tableOf : ℕ → ℕ → ℕ → List ℕ → Table
+tableOf m x count l = record { processors = m; depth = x; count = count; rows = rowsOf l 32 }
+
+-- three numbers of each member of a list in turn
+unfoldable pub threes : {A : Type 0} → (A → ℕ) → (A → ℕ) → (A → ℕ) → List A → List ℕ
+threes f g h [] = []
+threes f g h (a ∷ l) = f a ∷ g a ∷ h a ∷ threes f g h l
+
+-- the numbers of a table that is given back
+unfoldable pub numbersOf : Table → List ℕ
+numbersOf t =
+    t .processors ∷ t .depth ∷ t .count ∷ threes (λ r. r .period) (λ r. r .execution) (λ r. r .deadline) (t .rows)

@@ -1,0 +1,71 @@
+-- What it tells of a file that its contents have no refusal.
+use mathlib.Core.Path.{_≡_, refl}
+use mathlib.Core.Bool.{false}
+use Prim.Native.Nat.{ℕ, _+_, _*_, _-_, _≤_, _<_}
+use mathlib.Core.List.{List}
+use lib.ListN.{length}
+use lib.Dec.{leb, ltb, eqb}
+use borrow.Author.Tests.{eqb-true, eqb-false, leb-true, ltb-false}
+use Rattle.table.specs.declared.Refusal.{Refusal}
+use Rattle.table.specs.Check.{refuse, none, inside}
+use Rattle.table.proofs.Ranges.{inside-true}
+use Rattle.contents.specs.Refusals.{inTurn}
+use Rattle.contents.specs.Kinds.{kindOf, isRefused}
+use Rattle.contents.specs.Entries.{countOf, formOf, kindAt, numberAt, startAt, lengthAt, placeOf, seekIn}
+use Rattle.contents.specs.Contents.{headRefusal, entryRefusal, leftOver, entriesRefusal, contentsRefusal}
+use Rattle.contents.proofs.Refusals.{when-passed, unless-passed, first-fine, turn-all}
+
+pub record HeadFine (s : List ℕ) : Type 0 where
+  pub four : 4 ≤ length s
+  pub most : length s ≤ 65535
+  pub form : formOf s ≡ 1
+  pub some : 1 ≤ countOf s
+  pub few : countOf s ≤ 64
+  pub room : 4 + 12 * countOf s ≤ length s
+
+abbrev same : ℕ → ℕ
+same n = n
+
+pub head-is-fine : (s : List ℕ) → headRefusal s ≡ 0 → HeadFine s
+unfolding headRefusal
+head-is-fine s h =
+    let a = unless-passed same (inside 4 (length s) 65535) 9 _ 0 h (eqb-false 9 0 refl) in
+    let b = unless-passed same (eqb (formOf s) 1) 10 _ 0 (a .1) (eqb-false 10 0 refl) in
+    let d = unless-passed same (inside 1 (countOf s) 64) 11 _ 0 (b .1) (eqb-false 11 0 refl) in
+    let e = unless-passed same (leb (4 + 12 * countOf s) (length s)) 11 0 0 (d .1) (eqb-false 11 0 refl) in
+    let l = inside-true _ _ _ (a .0) in
+    let n = inside-true _ _ _ (d .0) in
+    record { four = l .0; most = l .1; form = eqb-true _ _ (b .0); some = n .0; few = n .1; room = leb-true _ _ (e .0) }
+
+pub record EntryFine (s : List ℕ) (i : ℕ) : Type 0 where
+  pub kind : isRefused (kindOf (kindAt s i)) ≡ false
+  pub start : startAt s i ≡ placeOf s i
+  pub end : placeOf s i + lengthAt s i ≤ length s
+  pub fresh : i ≤ seekIn s (numberAt s i) i
+
+pub entry-is-fine : (s : List ℕ) (i : ℕ) → entryRefusal s i ≡ 0 → EntryFine s i
+unfolding entryRefusal
+entry-is-fine s i h =
+    let a = when-passed same (isRefused (kindOf (kindAt s i))) 12 _ 0 h (eqb-false 12 0 refl) in
+    let b = unless-passed same (eqb (startAt s i) (placeOf s i)) 13 _ 0 (a .1) (eqb-false 13 0 refl) in
+    let d = unless-passed same (leb (placeOf s i + lengthAt s i) (length s)) 13 _ 0 (b .1) (eqb-false 13 0 refl) in
+    let e = when-passed same (ltb (seekIn s (numberAt s i) i) i) 16 0 0 (d .1) (eqb-false 16 0 refl) in
+    record { kind = a .0; start = eqb-true _ _ (b .0); end = leb-true _ _ (d .0); fresh = ltb-false _ _ (e .0) }
+
+-- every part of the contents is in order, and the file ends with the last body
+pub record ContentsFine (s : List ℕ) : Type 0 where
+  pub head : HeadFine s
+  pub entry : (i : ℕ) → i < countOf s → EntryFine s i
+  pub whole : placeOf s (countOf s) ≡ length s
+
+pub contents-are-fine : (s : List ℕ) → contentsRefusal s .no ≡ 0 → ContentsFine s
+unfolding contentsRefusal leftOver
+contents-are-fine s h =
+    let a = first-fine (refuse (headRefusal s) 0 0) (entriesRefusal s) h in
+    let b = first-fine (inTurn (λ i. refuse (entryRefusal s i) i 0) (countOf s)) (leftOver s) (a .1) in
+    let d = unless-passed (λ (r : Refusal). r .no) (eqb (placeOf s (countOf s)) (length s)) (refuse 13 (countOf s - 1) 0) none 0 (b .1) (eqb-false 13 0 refl) in
+    record {
+      head = head-is-fine s (a .0);
+      entry = λ i l. entry-is-fine s i (turn-all (λ i. refuse (entryRefusal s i) i 0) (countOf s) (b .0) i l);
+      whole = eqb-true _ _ (d .0);
+    }

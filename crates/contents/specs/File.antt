@@ -1,0 +1,45 @@
+-- A task file as a list of entries, and its bytes: "Contents first, then bodies."
+use Prim.Native.Nat.{ℕ, zero, suc, _+_, _*_}
+use mathlib.Core.List.{List, [], _∷_, _++_}
+use lib.ListN.{length}
+use Rattle.wire.specs.Number.{bytes16, bytes32}
+use Rattle.wire.specs.Sum.{sumOf}
+use Rattle.contents.specs.Entries.{countOf, kindAt, numberAt, bodyAt}
+
+pub record Entry : Type 0 where
+  pub kind : ℕ
+  pub number : ℕ
+  pub body : List ℕ
+
+-- "kind (2 bytes), number (2), start (2), length (2), sum (4)"
+unfoldable pub headOf : ℕ → Entry → List ℕ
+headOf start e =
+    bytes16 (e .kind)
+    ++ (bytes16 (e .number) ++ (bytes16 start ++ (bytes16 (length (e .body)) ++ bytes32 (sumOf (e .body)))))
+
+-- the entries' twelve bytes each, the first body starting at a place, "each next one where the last ended"
+unfoldable pub headsOf : ℕ → List Entry → List ℕ
+headsOf start [] = []
+headsOf start (e ∷ es) = headOf start e ++ headsOf (start + length (e .body)) es
+
+-- "The bodies follow in the order of the contents with no gap"
+unfoldable pub bodiesOf : List Entry → List ℕ
+bodiesOf [] = []
+bodiesOf (e ∷ es) = e .body ++ bodiesOf es
+
+-- "Bytes 0 and 1: number of entries n, 1 to 64. Bytes 2 and 3: form, 1. Then n entries of 12 bytes"; "the first starts at 4 + 12n"
+unfoldable pub encode : List Entry → List ℕ
+encode es = (bytes16 (length es) ++ bytes16 1) ++ (headsOf (4 + 12 * length es) es ++ bodiesOf es)
+
+-- entry i as the contents give it
+unfoldable pub entryAt : List ℕ → ℕ → Entry
+entryAt s i = record { kind = kindAt s i; number = numberAt s i; body = bodyAt s i }
+
+-- k entries from entry i on
+unfoldable pub entriesFrom : List ℕ → ℕ → ℕ → List Entry
+entriesFrom s i zero = []
+entriesFrom s i (suc k) = entryAt s i ∷ entriesFrom s (suc i) k
+
+-- the entries that the file s says it has
+unfoldable pub entriesOf : List ℕ → List Entry
+entriesOf s = entriesFrom s 0 (countOf s)

@@ -1,0 +1,41 @@
+-- The contracts of `deepen` and `deep` determine both lists at exit, and whether the map changed. That of `zero` is one of `Over`, as `first_map`'s.
+use mathlib.Core.Path.{_≡_, sym, subst, _∙_}
+use mathlib.Core.Bool.{Bool, false}
+use mathlib.Core.List.{List}
+use mathlib.Core.Logic.{⊎-elim}
+use Prim.Native.Nat.{ℕ, _≤_}
+use lib.ListN.{length}
+use Rattle.model.specs.Model.{Model, Map}
+use Rattle.model.proofs.Bools.{test}
+use Rattle.lists.specs.Over.{Holds, Same}
+use Rattle.firstmap.proofs.Determined.{determined}
+use Rattle.deepen.specs.Step.{words, Shrinking, Step, Deepened, Reached}
+
+module _ (M : Model) (h : ℕ) {map pins map₁ pins₁ map₂ pins₂ : List ℕ} where
+  pub deepen-determined : {one two : Bool} (A : Map) → Shrinking M h A → Holds (words M A) h map → h ≤ length pins
+      → Deepened M h map pins map₁ pins₁ one → Deepened M h map pins map₂ pins₂ two → (map₁ ≡ map₂) × (pins₁ ≡ pins₂) × (one ≡ two)
+  deepen-determined {one} {two} A S held k d₁ d₂ = (maps, determined k (p .pinned-sets) (q .pinned-sets), flags)
+    where
+      p : Step M h A map pins map₁ pins₁ one
+      p = d₁ A S held
+
+      q : Step M h A map pins map₂ pins₂ two
+      q = d₂ A S held
+
+      maps : map₁ ≡ map₂
+      maps = determined (held .room) (p .next-sets) (q .next-sets)
+
+      to-two : one ≡ false → two ≡ false
+      to-two e = q .told (subst (λ (l : List ℕ). Same map l) maps (p .still e))
+
+      to-one : two ≡ false → one ≡ false
+      to-one e = p .told (subst (λ (l : List ℕ). Same map l) (sym maps) (q .still e))
+
+      flags : one ≡ two
+      flags =
+          ⊎-elim (λ e. ⊎-elim (λ f. e ∙ sym f) (λ f. to-one f ∙ sym f) (test two))
+          (λ e. e ∙ sym (to-two e))
+          (test one)
+
+  pub deep-determined : (x : ℕ) → h ≤ length map → h ≤ length pins → Reached M x h map pins map₁ pins₁ → Reached M x h map pins map₂ pins₂ → (map₁ ≡ map₂) × (pins₁ ≡ pins₂)
+  deep-determined x k l p q = (determined k (p .available-sets) (q .available-sets), determined l (p .pinned-sets) (q .pinned-sets))

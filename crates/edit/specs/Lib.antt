@@ -1,0 +1,2 @@
+-- What adding and removing a row gives.
+pub mod Edit

@@ -1,0 +1,23 @@
+-- The laws of the task file. The theorems are in Exactly, Once, Zeros, RoundTrip, Kept and Written; the other files serve them.
+pub mod Bytes
+pub mod Numbers
+pub mod Laid
+pub mod Back
+pub mod Entries
+pub mod Accepts
+pub mod Once
+pub mod Accepted
+pub mod Encoded
+pub mod Exactly
+pub mod Bodies
+pub mod Tables
+pub mod Zeros
+pub mod Finds
+pub mod Puts
+pub mod PutFinds
+pub mod PutValid
+pub mod RoundTrip
+pub mod Passed
+pub mod Kept
+pub mod Written
+pub mod Example

@@ -1,0 +1,3 @@
+-- A file with a table put into it.
+pub mod Put
+pub mod Writing

@@ -1,0 +1,7 @@
+-- The theorems about the judge.
+pub mod Admitted
+pub mod Lines
+pub mod Answers
+pub mod Outcomes
+pub mod Determined
+pub mod Meaning

@@ -1,0 +1,62 @@
+-- Refused, or the verdict of the line at the frame.
+use mathlib.Core.Path.{sym, ap, _∙_}
+use borrow.Author.Needs.{needs}
+use Rattle.table.specs.Check.{numbers}
+use Rattle.judge.proofs.Admitted.{admitted}
+use Rattle.judge.proofs.Answers.{judged-refused, judged-given}
+use Rattle.judge.proofs.judge.Statement.{statement}
+use Rattle.judge.proofs.judge.Tie as tie
+
+admit-requires : tie.Need-admit-requires
+admit-requires c κs = search needs
+
+enum-known-c : tie.Need-enum-known-c
+enum-known-c c = search needs
+
+enum-known-c-2 : tie.Need-enum-known-c-2
+enum-known-c-2 c = search needs
+
+size-requires : tie.Need-size-requires
+size-requires c κs = search needs
+
+line-requires : tie.Need-line-requires
+line-requires c κs =
+    let start = c .before .before .before .before .before .before .before .before .before in
+    let a = admitted (start .args .t) _ _ _ (ap numbers (sym (c .before .before .before .before .c2 .given .1)) ∙ c .before .before .before .before .before .before .admit .ensures) in
+    let e = c .before .before .size .ensures in
+    rw e (a .accepted, a .map-room, a .pins-room)
+
+verdict-of-requires : tie.Need-verdict-of-requires
+verdict-of-requires c κs = search needs
+
+returns : tie.Need-returns
+returns c =
+    let start = c .before .before .before .before .before .before in
+    judged-refused (start .args .t) _ _ _ (ap numbers (sym (c .before .c .given .1)) ∙ c .before .before .before .admit .ensures)
+
+same-length : tie.Need-same-length
+same-length c = search needs
+
+same-length-2 : tie.Need-same-length-2
+same-length-2 c = search needs
+
+returns-2 : tie.Need-returns-2
+returns-2 c =
+    let start = c .before .before .before .before .before .before .before .before .before .before .before .before .before .before .before in
+    rw (c .verdict-of .ensures)
+    (judged-given (start .args .t) _ _ _ _ _ _ _ (ap numbers (sym (c .before .before .before .before .before .before .before .before .before .before .c2 .given .1)) ∙ c .before .before .before .before .before .before .before .before .before .before .before .before .admit .ensures) (c .before .before .before .before .before .before .before .before .size .ensures) (c .before .before .before .before .before .line .ensures))
+
+pub judge-spec : {M : Type 1} → statement M
+judge-spec =
+    tie.close
+    (tie.spec
+    admit-requires
+    enum-known-c
+    enum-known-c-2
+    size-requires
+    line-requires
+    verdict-of-requires
+    returns
+    same-length
+    same-length-2
+    returns-2)

@@ -1,0 +1,48 @@
+-- The first map, the depths, and the scan, each from what the one before left.
+use native.Mathlib.Omega.{arith}
+use borrow.Author.Needs.{needs}
+use Rattle.lists.proofs.Overs.{holds-of, over-then}
+use Rattle.firstmap.proofs.Framed.{framed}
+use Rattle.judge.proofs.line.Statement.{statement}
+use Rattle.judge.proofs.line.Tie as tie
+
+first-map-requires : tie.Need-first-map-requires
+first-map-requires c κs =
+    let pre = c .before .before .before .pre in
+    (framed _ _ (pre .0), omega (arith, pre .1, pre .2))
+
+deep-requires : tie.Need-deep-requires
+deep-requires c κs =
+    let start = c .before .before .before .before .before .before .before .before in
+    let first = c .before .before .before .before .first-map .ensures in
+    let held = holds-of first (omega (arith, start .pre .1, start .pre .2)) in
+    ((framed _ _ (start .pre .0), omega (arith, held .room, start .pre .2), omega (arith, held .room, start .pre .2)), held)
+
+scan-requires : tie.Need-scan-requires
+scan-requires c κs =
+    let start = c .before .before .before .before .before .before .before .before .before .before .before .before .before .before in
+    record {
+      accepted = start .pre .0;
+      room = holds-of (c .before .before .before .before .before .deep .ensures .available-sets) (holds-of (c .before .before .before .before .before .before .before .before .before .before .first-map .ensures) (start .pre .1) .room) .room;
+    }
+
+same-length : tie.Need-same-length
+same-length c = search needs
+
+same-length-2 : tie.Need-same-length-2
+same-length-2 c = search needs
+
+returns : tie.Need-returns
+returns c =
+    let start = c .before .before .before .before .before .before .before .before .before .before .before .before .before .before .before in
+    let first = c .before .before .before .before .before .before .before .before .before .before .before .first-map .ensures in
+    let deep = c .before .before .before .before .before .before .deep .ensures in
+    record {
+      reached = record { available-sets = over-then first (deep .available-sets); pinned-sets = deep .pinned-sets };
+      line = c .scan .ensures _ (holds-of (deep .available-sets) (holds-of first (start .pre .1) .room));
+    }
+
+pub line-spec : {M : Type 1} → statement M
+line-spec =
+    tie.close
+    (tie.spec first-map-requires deep-requires scan-requires same-length same-length-2 returns)

@@ -1,0 +1,104 @@
+// The judge of a table: whether some length of the frame has more work due than its slots supply.
+ghost use mathlib.Core.Path.{_≡_};
+ghost use Prim.Native.Nat.{ℕ, _≤_};
+ghost use lib.ListN.{length};
+ghost use Rattle.table.specs.Check.{numbers as checkNumbers, refused};
+ghost use Rattle.table.specs.Meaning.{modelOf, Accepted};
+ghost use Rattle.judge.specs.Admit.{roomOf, admitOf};
+ghost use Rattle.judge.specs.Judge.{Judged, Lined, verdictOf};
+use scan::Line;
+use table::Checked;
+use table::Refusal;
+use table::Table;
+
+// Infeasible with the least length that fails, its work and its supply; undecided; or refused.
+pub enum Verdict {
+    Infeasible {
+        t: u32,
+        work: u32,
+        supply: u32,
+        frame: u32,
+    },
+    Undecided {
+        frame: u32,
+    },
+    Refused(Refusal),
+}
+
+fn short() -> Checked
+    ensures { λ r. ⌜ checkNumbers r ≡ refused 8 0 ⌝ }
+{
+    Checked::Refused(Refusal {
+        no: 8,
+        entry: 0,
+        row: 0,
+    })
+}
+
+fn size(x: u32) -> usize
+    ensures { λ r. ⌜ r ≡ x ⌝ }
+{
+    x as usize
+}
+
+// The frame, or 8 where either list is shorter than it.
+fn room(h: u32, map: usize, pins: usize) -> Checked
+    ensures { λ r. ⌜ checkNumbers r ≡ roomOf map pins (checkNumbers (Checked.Frame h)) ⌝ }
+{
+    if map < size(h) {
+        return short();
+    }
+    if pins < size(h) {
+        return short();
+    }
+    Checked::Frame(h)
+}
+
+// The frame, or the first refusal: the table's own, then 8. The lists are given by their lengths.
+pub fn admit(t: Table, map: usize, pins: usize) -> Checked
+    ensures { λ r. ⌜ checkNumbers r ≡ admitOf t map pins ⌝ }
+{
+    let c = table::check(t);
+    match c {
+        Checked::Refused(r) => Checked::Refused(r),
+        Checked::Frame(h) => room(h, map, pins),
+    }
+}
+
+// Both lists at the table's depth, and the line of its map.
+fn line(t: Table, h: usize, map: &mut [u32], pins: &mut [u32]) -> Line
+    requires { ⌜ Accepted t h × (h ≤ length (now map)) × (h ≤ length (now pins)) ⌝ }
+    ensures { λ r. ⌜ Lined t h (now (map .entry)) (now (pins .entry)) (now (map .exit)) (now (pins .exit)) r ⌝ }
+{
+    firstmap::first_map(t, h, map);
+    deepen::deep(t, h, map, pins);
+    scan::scan(t, h, map)
+}
+
+fn verdict_of(l: Line, frame: u32) -> Verdict
+    ensures { λ r. ⌜ r ≡ verdictOf l frame ⌝ }
+{
+    if l.t == 0 {
+        return Verdict::Undecided { frame };
+    }
+    Verdict::Infeasible {
+        t: l.t,
+        work: l.work,
+        supply: l.supply,
+        frame,
+    }
+}
+
+// The verdict on a table, with the sets of its depth in the lists that are lent for them.
+pub fn judge(t: Table, map: &mut [u32], pins: &mut [u32]) -> Verdict
+    ensures { λ r. ⌜ Judged t (now (map .entry)) (now (pins .entry)) (now (map .exit)) (now (pins .exit)) r ⌝ }
+{
+    let c = admit(t, map.len(), pins.len());
+    match c {
+        Checked::Refused(r) => Verdict::Refused(r),
+        Checked::Frame(h) => {
+            let l = line(t, size(h), map, pins);
+            verdict_of(l, h)
+        }
+    }
+}

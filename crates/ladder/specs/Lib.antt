@@ -1,0 +1,3 @@
+-- What the ladder gives, and what it leaves in the lent lists.
+pub mod Ladder
+pub mod Core

@@ -1,0 +1,2 @@
+-- What the statement over the marked tables says of the rules, and of the judge.
+pub mod Rules

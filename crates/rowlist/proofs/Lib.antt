@@ -1,0 +1,5 @@
+-- The theorems about the check of a list.
+pub mod Machine
+pub mod SoFar
+pub mod OfTable
+pub mod Determined

@@ -1,0 +1,2 @@
+-- What the check of a lent list of rows answers.
+pub mod List

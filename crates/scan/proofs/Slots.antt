@@ -1,0 +1,77 @@
+-- The supply of the words of a list, and the line of the map that the list holds.
+use mathlib.Core.Path.{_≡_, sym, ap, ap₂, _∙_}
+use mathlib.Core.List.{List}
+use Prim.Native.Nat.{ℕ, _+_, _-_, _*_, _≤_, _<_, min}
+use native.Mathlib.Nat.{one-mul, add-sub-of-le, lt-of-lt-of-le}
+use native.Mathlib.Omega.{arith}
+use lib.Count.{ones}
+use lib.ListN.{getD}
+use borrow.Author.Tests.{ne-eqb}
+use Rattle.model.specs.Sum.{sum, bit}
+use Rattle.model.specs.Model.{Model, Map}
+use Rattle.model.specs.Pins.{size}
+use Rattle.model.specs.Supply.{usable, supply}
+use Rattle.model.specs.Work.{workDue}
+use Rattle.model.specs.Failing.{leastFailing, Least}
+use Rattle.model.proofs.Sums.{sum-eq, sum-cut, sum-longer}
+use Rattle.model.proofs.Least.{least-found, least-none}
+use Rattle.sets.specs.Word.{word}
+use Rattle.sets.proofs.Words.{ones-word}
+use Rattle.lists.specs.Over.{Holds}
+use Rattle.scan.specs.Lines.{noLine, lineOf}
+use Rattle.scan.specs.Supplied.{each, Supplied}
+use Rattle.scan.proofs.Dues.{sum-none}
+
+-- the supply of the first t words of a list, on m processors
+unfoldable pub held : ℕ → List ℕ → ℕ → ℕ
+held m l t = sum t (λ s. min m (ones (getD l s 0)))
+
+pub held-none : (m : ℕ) (l : List ℕ) → held m l 0 ≡ 0
+unfolding held
+held-none m l = sum-none _
+
+pub held-on : (m : ℕ) {l : List ℕ} {a b v w : ℕ} → v ≡ held m l a → a ≤ b → Supplied m l a b v w → w ≡ held m l b
+unfolding held
+held-on m {l} {a} {b} e h q =
+    let f : ℕ → ℕ = λ s. min m (ones (getD l s 0)) in
+    q .total ∙ ap (λ (x : ℕ). x + sum (b - a) (each m l a)) e ∙ sym (sum-cut a (b - a) f) ∙ ap (λ (x : ℕ). sum x f) (add-sub-of-le h)
+
+pub held-grows : (m : ℕ) (l : List ℕ) {a b : ℕ} → a ≤ b → held m l a ≤ held m l b
+unfolding held
+held-grows m l h = sum-longer _ h
+
+-- no length of 1 to k has more work due than the words supply
+abbrev pub Fine : Model → ℕ → List ℕ → ℕ → Type 0
+Fine M m l k = (s : ℕ) → 1 ≤ s → s ≤ k → workDue M s ≤ held m l s
+
+module _ (M : Model) (m h : ℕ) (l : List ℕ) (one : (i : ℕ) → M .weight i ≡ 1) (all : (s : ℕ) → M .capacity s ≡ m) (A : Map)
+    (H : Holds (λ s. word (M .rows) (A s)) h l) where
+  -- the words' counts of ones are the sizes of the sets
+  size-held : (s : ℕ) → s < h → ones (getD l s 0) ≡ size M A s
+  unfolding size
+  size-held s k =
+      ap ones (H .at s k) ∙ ones-word (M .rows) (A s)
+      ∙ sum-eq (M .rows) (λ i j. sym (ap (λ (z : ℕ). z * bit (A s i)) (one i) ∙ one-mul (bit (A s i))))
+
+  supply-held : (t : ℕ) → t ≤ h → held m l t ≡ supply M A t
+  unfolding held supply usable
+  supply-held t k = sum-eq t (λ s j. ap₂ min (sym (all s)) (size-held s (lt-of-lt-of-le j k)))
+
+  -- the first length that fails
+  pub line-here : (k : ℕ) {w v : ℕ} → 1 ≤ k → k ≤ h → Fine M m l (k - 1) → held m l k < workDue M k → w ≡ workDue M k → v ≡ held m l k
+      → record { t = k; work = w; supply = v } ≡ lineOf M A h
+  unfolding lineOf
+  line-here k {w} {v} p q f g ew ev =
+      let r : Least M A h k = record {
+        from = p;
+        to = q;
+        here = rw (← supply-held k q) g;
+        before = λ s a b. rw (← supply-held s (omega arith)) (f s a (omega arith));
+      } in
+      let e : k ≡ leastFailing M A h = least-found M A h k r in
+      rw (← e, ne-eqb k 0 (λ (z : k ≡ 0). omega arith), ew, ev, supply-held k q)
+
+  -- no length fails
+  pub line-none : Fine M m l h → noLine ≡ lineOf M A h
+  unfolding lineOf
+  line-none f = rw (← least-none M A h (λ t a b. rw (← supply-held t b) (f t a b)))

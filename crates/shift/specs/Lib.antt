@@ -1,0 +1,2 @@
+-- What was read of the input.
+pub mod Input

@@ -1,0 +1,70 @@
+-- The parts of the line in turn; their numbers have 8 bits.
+use native.Mathlib.Omega.{arith}
+use borrow.Author.Needs.{needs}
+use Rattle.lines.proofs.Puts.{written-then}
+use Rattle.shifttext.specs.Line.{refusedLine}
+use Rattle.shifttext.proofs.Lines.{refused-short}
+use Rattle.shifttext.proofs.put_refused.Statement.{statement}
+use Rattle.shifttext.proofs.put_refused.Tie as tie
+
+slice-aggregate-put-part : tie.Need-slice-aggregate-put-part
+slice-aggregate-put-part c = search needs
+
+cast-put-part : tie.Need-cast-put-part
+cast-put-part c = search needs
+
+put-part-requires : tie.Need-put-part-requires
+put-part-requires c κs = search needs
+
+slice-aggregate-put-part-2 : tie.Need-slice-aggregate-put-part-2
+slice-aggregate-put-part-2 c = search needs
+
+cast-put-part-2 : tie.Need-cast-put-part-2
+cast-put-part-2 c = search needs
+
+put-part-requires-2 : tie.Need-put-part-requires-2
+put-part-requires-2 c κs = search needs
+
+slice-aggregate-put-part-3 : tie.Need-slice-aggregate-put-part-3
+slice-aggregate-put-part-3 c = search needs
+
+cast-put-part-3 : tie.Need-cast-put-part-3
+cast-put-part-3 c = search needs
+
+put-part-requires-3 : tie.Need-put-part-requires-3
+put-part-requires-3 c κs = search needs
+
+put-end-requires : tie.Need-put-end-requires
+put-end-requires c κs = search needs
+
+same-length : tie.Need-same-length
+same-length c = search needs
+
+returns : tie.Need-returns
+unfolding refusedLine
+returns c =
+    let third = c .before .before .before .before .before .before in
+    let second = third .before .before .before .before .before .before in
+    let first = second .before .before .before .before .before .before in
+    let a = first .before .before .before .before .before .args in
+    record {
+      written = written-then (written-then (written-then (first .put-part .ensures) (second .put-part2 .ensures)) (third .put-part3 .ensures)) (c .before .before .put-end .ensures);
+      short = refused-short (a .r) (omega arith) (omega arith) (omega arith);
+    }
+
+pub put-refused-spec : {M : Type 1} → statement M
+put-refused-spec =
+    tie.close
+    (tie.spec
+    slice-aggregate-put-part
+    cast-put-part
+    put-part-requires
+    slice-aggregate-put-part-2
+    cast-put-part-2
+    put-part-requires-2
+    slice-aggregate-put-part-3
+    cast-put-part-3
+    put-part-requires-3
+    put-end-requires
+    same-length
+    returns)

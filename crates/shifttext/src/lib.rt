@@ -1,0 +1,119 @@
+// The text of the shift check: one line for each table of a file, or the line of its refusal.
+ghost use Rattle.lines.specs.Words.{newline};
+ghost use Rattle.lines.specs.Put.{Written};
+ghost use Rattle.shifttext.specs.Line.{part, longest, infeasibleLine, undecidedLine, refusedLine, verdictLine};
+ghost use Rattle.shifttext.specs.Shift.{Told, Entered, Through, Shifted};
+use judge::Verdict;
+use table::Refusal;
+
+// Writes a word and a number after it.
+fn put_part(out: &mut [u8], at: usize, word: &[u8], v: u32) -> usize
+    ensures { λ r. ⌜ Written (now (out .entry)) at (part (now (word .entry)) v) (now (out .exit)) r ⌝ }
+{
+    let next = lines::put_text(out, at, word);
+    lines::put_decimal(out, next, v)
+}
+
+fn put_end(out: &mut [u8], at: usize) -> usize
+    ensures { λ r. ⌜ Written (now (out .entry)) at newline (now (out .exit)) r ⌝ }
+{
+    lines::put_text(out, at, b"\n")
+}
+
+fn put_infeasible(out: &mut [u8], at: usize, number: u16, t: u32, work: u32, supply: u32) -> usize
+    ensures { λ r. ⌜ Told longest (now (out .entry)) at (infeasibleLine number t work supply) (now (out .exit)) r ⌝ }
+{
+    let after_number = put_part(out, at, b"TABLE ", number as u32);
+    let after_t = put_part(out, after_number, b" INFEASIBLE ", t);
+    let after_work = put_part(out, after_t, b" ", work);
+    let after_supply = put_part(out, after_work, b" ", supply);
+    put_end(out, after_supply)
+}
+
+fn put_undecided(out: &mut [u8], at: usize, number: u16, h: u32) -> usize
+    ensures { λ r. ⌜ Told longest (now (out .entry)) at (undecidedLine number h) (now (out .exit)) r ⌝ }
+{
+    let after_number = put_part(out, at, b"TABLE ", number as u32);
+    let after_h = put_part(out, after_number, b" UNDECIDED ", h);
+    put_end(out, after_h)
+}
+
+fn put_refused(out: &mut [u8], at: usize, r: Refusal) -> usize
+    ensures { λ n. ⌜ Told longest (now (out .entry)) at (refusedLine r) (now (out .exit)) n ⌝ }
+{
+    let after_no = put_part(out, at, b"REFUSED ", r.no as u32);
+    let after_entry = put_part(out, after_no, b" ", r.entry as u32);
+    let after_row = put_part(out, after_entry, b" ", r.row as u32);
+    put_end(out, after_row)
+}
+
+// Writes the line of a table with a number, by its verdict. No table of an accepted file is refused.
+fn put_verdict(out: &mut [u8], at: usize, number: u16, v: Verdict) -> usize
+    ensures { λ r. ⌜ Told longest (now (out .entry)) at (verdictLine number v) (now (out .exit)) r ⌝ }
+{
+    match v {
+        Verdict::Infeasible {
+            t,
+            work,
+            supply,
+            frame: _,
+        } => put_infeasible(out, at, number, t, work, supply),
+        Verdict::Undecided { frame } => put_undecided(out, at, number, frame),
+        Verdict::Refused(_) => put_undecided(out, at, number, 0),
+    }
+}
+
+// Writes the line of entry i, if it is a table, and leaves its sets in the lists.
+fn put_entry(
+    file: &[u8],
+    i: u16,
+    map: &mut [u32; 4096],
+    pins: &mut [u32; 4096],
+    out: &mut [u8],
+    at: usize,
+) -> usize
+    ensures { λ r. ⌜ Entered (now (file .entry)) i (now (map .entry)) (now (pins .entry)) (now (out .entry)) at (now (map .exit)) (now (pins .exit)) (now (out .exit)) r ⌝ }
+{
+    let kind = contents::kind_of(contents::entries::kind_at(file, i));
+    if !contents::is_table(kind) {
+        return at;
+    }
+    let t = bodies::read_table(contents::entries::body(file, i));
+    let v = judge::judge(t, map, pins);
+    put_verdict(out, at, contents::entries::number_at(file, i), v)
+}
+
+// Writes the lines of the first n entries, in the order of the contents.
+fn put_lines(
+    file: &[u8],
+    n: u16,
+    map: &mut [u32; 4096],
+    pins: &mut [u32; 4096],
+    out: &mut [u8],
+) -> usize
+    ensures { λ r. ⌜ Through (now (file .entry)) n (now (map .entry)) (now (pins .entry)) (now (out .entry)) (now (map .exit)) (now (pins .exit)) (now (out .exit)) r ⌝ }
+{
+    let mut at: usize = 0;
+    let mut i: u16 = 0;
+    while i < n {
+        at = put_entry(file, i, map, pins, out, at);
+        i += 1;
+    }
+    at
+}
+
+// Writes the text of a file from the start of the output on, and tells its length. Every text has room there.
+pub fn shift_text(
+    file: &[u8],
+    map: &mut [u32; 4096],
+    pins: &mut [u32; 4096],
+    out: &mut [u8; 4096],
+) -> usize
+    ensures { λ r. ⌜ Shifted (now (file .entry)) (now (map .entry)) (now (pins .entry)) (now (out .entry)) (now (map .exit)) (now (pins .exit)) (now (out .exit)) r ⌝ }
+{
+    let r = taskfile::file_refusal(file);
+    if r.no != 0 {
+        return put_refused(out, 0, r);
+    }
+    put_lines(file, contents::entries::count(file), map, pins, out)
+}

@@ -1,0 +1,67 @@
+-- The bodies passed so far are in order; the first that is not is returned.
+use mathlib.Core.Path.{_≡_, sym, ap, _∙_}
+use Prim.Native.Nat.{ℕ, _-_, _≤_, _<_}
+use native.Mathlib.Omega.{arith}
+use borrow.Author.Count.{below-none, below-more}
+use Rattle.table.specs.declared.Refusal.{Refusal}
+use Rattle.contents.proofs.Refusals.{turn-fine, turn-here}
+use Rattle.taskfile.specs.Check.{inEntry, partRefusal}
+use Rattle.taskfile.proofs.parts_refusal.Statement.{statement}
+use Rattle.taskfile.proofs.parts_refusal.Tie as tie
+
+abbrev Inv-loop : tie.InvT-loop
+Inv-loop s n i₀ i = (i ≤ n) × ((k : ℕ) → k < i → partRefusal s k .no ≡ 0)
+
+abbrev μ-loop : tie.MeasureT-loop
+μ-loop s n i₀ i = n - i
+
+loop-holds : tie.Need-loop-holds Inv-loop μ-loop
+loop-holds c = (omega arith, below-none _)
+
+part-refusal-requires : tie.Need-part-refusal-requires Inv-loop μ-loop
+part-refusal-requires c κs = tt
+
+cast-refusal : tie.Need-cast-refusal Inv-loop μ-loop
+cast-refusal c = omega arith
+
+refusal-requires : tie.Need-refusal-requires Inv-loop μ-loop
+refusal-requires c κs = tt
+
+returns : tie.Need-returns Inv-loop μ-loop
+returns c =
+    let l = c .before .before .before .before .before .loop in
+    let p = c .before .before .before .part-refusal .ensures in
+    c .refusal .ensures ∙ ap (inEntry (l .i)) p ∙ turn-here _ _ (l .i) (l .inv .1) (λ e. c .before .if1 .taken (ap (λ (r : Refusal). r .no) p ∙ e)) (c .before .before .before .before .loop-test .taken)
+
+add-i : tie.Need-add-i Inv-loop μ-loop
+add-i c = omega arith
+
+loop-less : tie.Need-loop-less Inv-loop μ-loop
+loop-less c = omega arith
+
+loop-again : tie.Need-loop-again Inv-loop μ-loop
+loop-again c =
+    (omega arith, below-more _ _ (c .before .before .before .before .loop .inv .1) (sym (ap (λ (r : Refusal). r .no) (c .before .before .part-refusal .ensures)) ∙ c .if1 .left))
+
+refusal-requires-2 : tie.Need-refusal-requires-2 Inv-loop μ-loop
+refusal-requires-2 c κs = tt
+
+returns-2 : tie.Need-returns-2 Inv-loop μ-loop
+returns-2 c = c .refusal2 .ensures ∙ turn-fine _ _ (λ k h. c .before .before .loop .inv .1 k (omega arith))
+
+pub parts-refusal-spec : {M : Type 1} → statement M
+parts-refusal-spec =
+    tie.close
+    (tie.spec
+    Inv-loop
+    μ-loop
+    loop-holds
+    part-refusal-requires
+    cast-refusal
+    refusal-requires
+    returns
+    add-i
+    loop-less
+    loop-again
+    refusal-requires-2
+    returns-2)

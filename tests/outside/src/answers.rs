@@ -1,0 +1,108 @@
+//! A table as a value, and the answer of each function as plain numbers.
+
+/// The numbers of a refusal; all are 0 where nothing is refused.
+#[derive(Clone, Copy, Debug, Default, PartialEq, Eq)]
+pub struct Refusal {
+    pub no: u32,
+    pub entry: u32,
+    pub row: u32,
+}
+
+/// One row (T, C, D).
+#[derive(Clone, Copy, Debug, Default, PartialEq, Eq)]
+pub struct Row {
+    pub period: u16,
+    pub execution: u16,
+    pub deadline: u16,
+}
+
+/// "processors m, depth x, a row count, and room for 32 rows (T, C, D)"
+#[derive(Clone, Copy, Debug, Default, PartialEq, Eq)]
+pub struct Table {
+    pub m: u8,
+    pub x: u8,
+    pub count: u8,
+    pub rows: [Row; 32],
+}
+
+/// What the check of a table answers.
+#[derive(Clone, Copy, Debug, Default, PartialEq, Eq)]
+pub struct Checked {
+    pub refusal: Refusal,
+    pub frame: u32,
+}
+
+/// What the judge answers.
+#[derive(Clone, Copy, Debug, Default, PartialEq, Eq)]
+pub struct Judged {
+    pub refusal: Refusal,
+    pub t: u32,
+    pub work: u32,
+    pub supply: u32,
+    pub frame: u32,
+}
+
+/// What the ladder answers: a line (t, work, supply) for each depth from 1 to 8.
+#[derive(Clone, Copy, Debug, Default, PartialEq, Eq)]
+pub struct Ladder {
+    pub refusal: Refusal,
+    pub square: [[u32; 3]; 8],
+}
+
+/// What add, remove and find answer.
+#[derive(Clone, Copy, Debug, Default, PartialEq, Eq)]
+pub struct Tabled {
+    pub refusal: Refusal,
+    pub table: Table,
+}
+
+/// What the file's check answers.
+#[derive(Clone, Copy, Debug, Default, PartialEq, Eq)]
+pub struct Filed {
+    pub refusal: Refusal,
+    pub entries: u32,
+}
+
+/// What put answers.
+#[derive(Clone, Copy, Debug, Default, PartialEq, Eq)]
+pub struct Written {
+    pub refusal: Refusal,
+    pub length: u32,
+}
+
+impl Table {
+    /// A table of the given rows (T, C, D), zeros past them.
+    pub fn of(m: u8, x: u8, rows: &[(u16, u16, u16)]) -> Table {
+        let numbers: Vec<u16> = rows.iter().flat_map(|&(t, c, d)| [t, c, d]).collect();
+        Given { m, x, count: rows.len() as u8, numbers }.table()
+    }
+
+    /// The rows that count.
+    pub fn counted(&self) -> &[Row] {
+        &self.rows[..self.count as usize]
+    }
+}
+
+/// A table as a caller of the static library passes it: T, C, D of each row in turn.
+#[derive(Clone, Debug, PartialEq, Eq)]
+pub struct Given {
+    pub m: u8,
+    pub x: u8,
+    pub count: u8,
+    pub numbers: Vec<u16>,
+}
+
+impl Given {
+    /// The table that is meant: missing numbers are 0, numbers past the 96th are not looked at.
+    pub fn table(&self) -> Table {
+        let number = |k: usize| self.numbers.get(k).copied().unwrap_or(0);
+        let row = |i: usize| Row { period: number(3 * i), execution: number(3 * i + 1), deadline: number(3 * i + 2) };
+        Table { m: self.m, x: self.x, count: self.count, rows: std::array::from_fn(row) }
+    }
+
+    /// All 96 numbers of a table, whatever its count.
+    pub fn from_table(table: &Table) -> Given {
+        let numbers = table.rows.iter().flat_map(|row| [row.period, row.execution, row.deadline]).collect();
+        Given { m: table.m, x: table.x, count: table.count, numbers }
+    }
+}

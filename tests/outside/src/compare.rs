@@ -1,0 +1,140 @@
+//! One comparison for each function: the library and the reference on the same input, with all lent memory.
+
+use crate::answers::{Checked, Filed, Given, Judged, Ladder, Row, Tabled, Written};
+use crate::lend::{bytes, words, Lent};
+use crate::reference::{text, Reference};
+use crate::run::{Difference, Outcome, Run};
+use crate::subject::Subject;
+use std::fmt::{Debug, Write};
+
+/// The reference's answer, which the library gave too; or the difference.
+type Compared<T> = Result<T, Box<Difference>>;
+
+/// A file in hexadecimal; a long one is written to a temporary file instead.
+fn show_file(file: &[u8]) -> String {
+    if file.len() > 2_000 {
+        let path = std::env::temp_dir().join("outside-difference.tasks");
+        let wrote = std::fs::write(&path, file).is_ok();
+        return format!(
+            "file of {} bytes{} {}",
+            file.len(),
+            if wrote { " in" } else { ", not written to" },
+            path.display()
+        );
+    }
+    let mut shown = format!("file of {} bytes:", file.len());
+    for byte in file {
+        write!(shown, " {byte:02X}").expect("a string takes all");
+    }
+    shown
+}
+
+fn show_table(given: &Given) -> String {
+    let Given { m, x, count, numbers } = given;
+    let rows: Vec<String> = numbers.chunks(3).map(|row| format!("{row:?}")).collect();
+    format!("table m {m} x {x} count {count} rows {} ({} numbers)", rows.join(" "), numbers.len())
+}
+
+/// Two lent lists must be the same, sides included.
+fn same_list<T: Copy + PartialEq + Debug>(
+    run: &mut Run,
+    input: impl FnOnce() -> String,
+    name: &str,
+    expected: &Lent<T>,
+    got: &Lent<T>,
+) -> Outcome {
+    match expected.first_difference(got) {
+        None => Ok(()),
+        Some((at, expected, got)) => {
+            run.difference(input(), format!("{name}[{at}] = {expected:?}"), format!("{name}[{at}] = {got:?}"))
+        }
+    }
+}
+
+pub fn check(run: &mut Run, given: &Given) -> Compared<Checked> {
+    let expected = Reference.check(given);
+    let got = run.subject.check(given);
+    run.same(|| format!("check of {}", show_table(given)), expected, got)?;
+    Ok(expected)
+}
+
+/// The two lists for the reference and the same two for the library.
+fn two_lists(run: &mut Run, lengths: (usize, usize)) -> [Lent<u32>; 4] {
+    let map = words(&mut run.random, lengths.0);
+    let pins = words(&mut run.random, lengths.1);
+    [map.clone(), pins.clone(), map, pins]
+}
+
+pub fn judge(run: &mut Run, given: &Given, lengths: (usize, usize)) -> Compared<Judged> {
+    let [mut map, mut pins, mut got_map, mut got_pins] = two_lists(run, lengths);
+    let expected = Reference.judge(given, map.list(), pins.list());
+    let got = run.subject.judge(given, got_map.list(), got_pins.list());
+    let input = || format!("judge of {}, lists of {lengths:?}", show_table(given));
+    run.same(input, expected, got)?;
+    same_list(run, input, "map", &map, &got_map)?;
+    same_list(run, input, "pins", &pins, &got_pins)?;
+    Ok(expected)
+}
+
+pub fn ladder(run: &mut Run, given: &Given, lengths: (usize, usize)) -> Compared<Ladder> {
+    let [mut map, mut pins, mut got_map, mut got_pins] = two_lists(run, lengths);
+    let expected = Reference.ladder(given, map.list(), pins.list());
+    let got = run.subject.ladder(given, got_map.list(), got_pins.list());
+    let input = || format!("ladder of {}, lists of {lengths:?}", show_table(given));
+    run.same(input, expected, got)?;
+    same_list(run, input, "map", &map, &got_map)?;
+    same_list(run, input, "pins", &pins, &got_pins)?;
+    Ok(expected)
+}
+
+pub fn add(run: &mut Run, given: &Given, row: Row) -> Compared<Tabled> {
+    let expected = Reference.add(given, row);
+    let got = run.subject.add(given, row);
+    run.same(|| format!("add of {row:?} to {}", show_table(given)), expected, got)?;
+    Ok(expected)
+}
+
+pub fn remove(run: &mut Run, given: &Given, index: u8) -> Compared<Tabled> {
+    let expected = Reference.remove(given, index);
+    let got = run.subject.remove(given, index);
+    run.same(|| format!("remove of {index} from {}", show_table(given)), expected, got)?;
+    Ok(expected)
+}
+
+pub fn file_check(run: &mut Run, file: &[u8]) -> Compared<Filed> {
+    let expected = Reference.file_check(file);
+    let got = run.subject.file_check(file);
+    run.same(|| format!("check of {}", show_file(file)), expected, got)?;
+    Ok(expected)
+}
+
+pub fn find(run: &mut Run, file: &[u8], number: u16) -> Compared<Tabled> {
+    let expected = Reference.find(file, number);
+    let got = run.subject.find(file, number);
+    run.same(|| format!("find of {number} in {}", show_file(file)), expected, got)?;
+    Ok(expected)
+}
+
+pub fn put(run: &mut Run, file: &[u8], number: u16, given: &Given, length: usize) -> Compared<Written> {
+    let mut out = bytes(&mut run.random, length);
+    let mut got_out = out.clone();
+    let expected = Reference.put(file, number, given, out.list());
+    let got = run.subject.put(file, number, given, got_out.list());
+    let input =
+        || format!("put of {} as {number}, output of {length} bytes, into {}", show_table(given), show_file(file));
+    run.same(input, expected, got)?;
+    same_list(run, input, "output", &out, &got_out)?;
+    Ok(expected)
+}
+
+/// The program's text, where the library has it; the lists are 4,096 words and the output is long enough.
+pub fn shift_text(run: &mut Run, file: &[u8]) -> Outcome {
+    let mut map = words(&mut run.random, 4096);
+    let mut pins = words(&mut run.random, 4096);
+    let mut out = bytes(&mut run.random, 4096);
+    let Some(length) = run.subject.shift_text(file, map.list(), pins.list(), out.list()) else {
+        return Ok(());
+    };
+    let got = String::from_utf8_lossy(&out.list()[..length.min(4096)]).into_owned();
+    run.same(|| format!("text of {}", show_file(file)), text::program_text(file), got)
+}

@@ -1,0 +1,17 @@
+//! The outside tests: an independent reading of document 01, and the suite that holds a library to it.
+
+pub mod answers;
+pub mod compare;
+pub mod draft;
+pub mod draw;
+#[cfg(feature = "library")]
+pub mod ffi;
+pub mod flow;
+pub mod lend;
+pub mod program;
+pub mod random;
+pub mod reference;
+pub mod run;
+pub mod subject;
+pub mod suite;
+pub mod wrong;
