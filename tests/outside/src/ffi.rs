@@ -69,16 +69,12 @@ extern "C" {
         out_len: usize,
         answer: *mut [u32; 4],
     );
-    #[cfg(feature = "text")]
     fn awelodrun_shift_text(
         file: *const u8,
         file_len: usize,
-        map: *mut u32,
-        map_len: usize,
-        pins: *mut u32,
-        pins_len: usize,
-        out: *mut u8,
-        out_len: usize,
+        map: *mut [u32; 4096],
+        pins: *mut [u32; 4096],
+        out: *mut [u8; 4096],
     ) -> usize;
 }
 
@@ -218,20 +214,10 @@ impl Subject for Library {
         Written { refusal: refusal(&answer), length: answer[3] }
     }
 
-    #[cfg(feature = "text")]
     fn shift_text(&self, file: &[u8], map: &mut [u32], pins: &mut [u32], out: &mut [u8]) -> Option<usize> {
-        let length = unsafe {
-            awelodrun_shift_text(
-                file.as_ptr(),
-                file.len(),
-                map.as_mut_ptr(),
-                map.len(),
-                pins.as_mut_ptr(),
-                pins.len(),
-                out.as_mut_ptr(),
-                out.len(),
-            )
-        };
-        Some(length)
+        let map: &mut [u32; 4096] = map.try_into().expect("the map has 4,096 words");
+        let pins: &mut [u32; 4096] = pins.try_into().expect("the pins have 4,096 words");
+        let out: &mut [u8; 4096] = out.try_into().expect("the output has 4,096 bytes");
+        Some(unsafe { awelodrun_shift_text(file.as_ptr(), file.len(), map, pins, out) })
     }
 }
