@@ -2,7 +2,7 @@
 use mathlib.Core.Path.{_≡_, refl, sym, ap, _∙_}
 use mathlib.Core.Bool.{Bool, true, false, cond, _||_}
 use mathlib.Core.Logic.{_⊎_, inl, inr, ⊎-elim}
-use Prim.Native.Nat.{ℕ, _≤_, _<_}
+use Prim.Native.Nat.{ℕ, _<_}
 use native.Mathlib.Omega.{arith}
 use lib.Dec.{ltb}
 use borrow.Author.Tests.{ltb-false, ne-eqb}
@@ -12,7 +12,7 @@ use Rattle.table.specs.declared.Checked.the-variants.{Frame, Refused}
 use Rattle.table.specs.Check.{Numbers, numbers, none, refused, checkOf}
 use Rattle.table.specs.Meaning.{Accepted}
 use Rattle.table.proofs.Accepted.{Rejected, outcome, rejected}
-use Rattle.judge.specs.Admit.{roomOf, admitOf}
+use Rattle.judge.specs.Admit.{roomOf, admitOf, Admitted}
 
 module _ (t : Table) (a b : ℕ) where
   accepts : checkOf t .refusal ≡ none → admitOf t a b ≡ roomOf a b (checkOf t)
@@ -29,29 +29,23 @@ module _ (t : Table) (a b : ℕ) where
   pub admit-refused : (r : Refusal) → numbers (Refused r) ≡ checkOf t → numbers (Refused r) ≡ admitOf t a b
   admit-refused r e = e ∙ sym (rejects (rejected t r e))
 
-  -- an accepted table with its frame h, and room for it in both lists
-  pub record Admitted (h : ℕ) : Type 0 where
-    pub accepted : Accepted t h
-    pub map-room : h ≤ a
-    pub pins-room : h ≤ b
-
   -- every table with two lists is admitted, or refused
-  pub admit-outcome : (Admitted (admitOf t a b .frame) × (admitOf t a b .refusal ≡ none)) ⊎ Rejected (admitOf t a b)
+  pub admit-outcome : (Admitted t a b (admitOf t a b .frame) × (admitOf t a b .refusal ≡ none)) ⊎ Rejected (admitOf t a b)
   admit-outcome = ⊎-elim (λ f. fine (f .0) (f .1)) (λ r. inr (rw (rejects r) r)) (outcome t)
     where
       h : ℕ
       h = checkOf t .frame
 
-      fine : Accepted t h → checkOf t .refusal ≡ none → (Admitted (admitOf t a b .frame) × (admitOf t a b .refusal ≡ none)) ⊎ Rejected (admitOf t a b)
+      fine : Accepted t h → checkOf t .refusal ≡ none → (Admitted t a b (admitOf t a b .frame) × (admitOf t a b .refusal ≡ none)) ⊎ Rejected (admitOf t a b)
       fine f e = rw (accepts e) (go (ltb a h) (ltb b h) refl refl)
         where
           go : (p q : Bool) → ltb a h ≡ p → ltb b h ≡ q
-              → let c = cond (p || q) (refused 8 0) (checkOf t) in (Admitted (c .frame) × (c .refusal ≡ none)) ⊎ Rejected c
+              → let c = cond (p || q) (refused 8 0) (checkOf t) in (Admitted t a b (c .frame) × (c .refusal ≡ none)) ⊎ Rejected c
           go true q ep eq = inr (record { number = omega arith; entry = refl; frame = refl })
           go false true ep eq = inr (record { number = omega arith; entry = refl; frame = refl })
           go false false ep eq = inl (record { accepted = f; map-room = ltb-false _ _ ep; pins-room = ltb-false _ _ eq }, e)
 
-  pub admitted : (h : ℕ) → numbers (Frame h) ≡ admitOf t a b → Admitted h
+  pub admitted : (h : ℕ) → numbers (Frame h) ≡ admitOf t a b → Admitted t a b h
   admitted h e =
       ⊎-elim
       (λ f. rw (ap (λ (c : Numbers). c .frame) e) (f .0))

@@ -11,9 +11,9 @@ use Rattle.table.specs.Check.{none}
 use Rattle.table.specs.Meaning.{modelOf}
 use Rattle.table.proofs.Accepted.{Rejected}
 use Rattle.scan.specs.Lines.{lineOf}
-use Rattle.judge.specs.Admit.{admitOf}
+use Rattle.judge.specs.Admit.{admitOf, Admitted}
 use Rattle.judge.specs.Judge.{Numbers, given, withheld, judgeOf}
-use Rattle.judge.proofs.Admitted.{Admitted, admit-outcome}
+use Rattle.judge.proofs.Admitted.{admit-outcome}
 
 module _ (t : Table) (a b : ℕ) where
   -- a verdict, on the frame h

@@ -1,10 +1,8 @@
 // The judge of a table: whether some length of the frame has more work due than its slots supply.
 ghost use mathlib.Core.Path.{_≡_};
-ghost use Prim.Native.Nat.{ℕ, _≤_};
 ghost use lib.ListN.{length};
 ghost use Rattle.table.specs.Check.{numbers as checkNumbers, refused};
-ghost use Rattle.table.specs.Meaning.{modelOf, Accepted};
-ghost use Rattle.judge.specs.Admit.{roomOf, admitOf};
+ghost use Rattle.judge.specs.Admit.{roomOf, admitOf, Admitted};
 ghost use Rattle.judge.specs.Judge.{Judged, Lined, verdictOf};
 use scan::Line;
 use table::Checked;
@@ -67,7 +65,7 @@ pub fn admit(t: Table, map: usize, pins: usize) -> Checked
 
 // Both lists at the table's depth, and the line of its map.
 fn line(t: Table, h: usize, map: &mut [u32], pins: &mut [u32]) -> Line
-    requires { ⌜ Accepted t h × (h ≤ length (now map)) × (h ≤ length (now pins)) ⌝ }
+    requires { ⌜ Admitted t (length (now map)) (length (now pins)) h ⌝ }
     ensures { λ r. ⌜ Lined t h (now (map .entry)) (now (pins .entry)) (now (map .exit)) (now (pins .exit)) r ⌝ }
 {
     firstmap::first_map(t, h, map);

@@ -18,6 +18,7 @@ use Rattle.table.proofs.Accepted.{sound-model, divides-mod}
 use Rattle.deepen.specs.Step.{words, Deepened, Reached}
 use Rattle.deepen.proofs.Depth.{depth-step, depth-stop, reached-then, shrinking}
 use Rattle.scan.specs.Lines.{lineAt}
+use Rattle.judge.specs.Admit.{Admitted}
 use Rattle.ladder.specs.Core.{three, squareOf, Measured, Begun, Repeated}
 use Rattle.ladder.proofs.Squares.{store-more, square-is}
 use Rattle.ladder.proofs.Same.{line-same}
@@ -34,13 +35,13 @@ pub record Climbing (t : Table) (h : ℕ) (map₀ pins₀ map pins : List ℕ) (
   pub lines : (k : ℕ) → k < y → getD square k [] ≡ three (lineAt (modelOf t) (suc k) h)
 
 -- at depth 1
-pub climbing-first : {t : Table} {h : ℕ} {map pins map′ pins′ : List ℕ} {r : List ℕ} {rest : List (List ℕ)} → Accepted t h → h ≤ length map → h ≤ length pins
+pub climbing-first : {t : Table} {h : ℕ} {map pins map′ pins′ : List ℕ} {r : List ℕ} {rest : List (List ℕ)} → Admitted t (length map) (length pins) h
     → Begun t h map pins map′ pins′ r → length rest ≡ 7 → Climbing t h map′ pins′ map′ pins′ (r ∷ rest) 1
-climbing-first {t} {h} {map} {pins} {map′} {pins′} {r} {rest} a mr pr b e =
-    let m = holds-of (b .reached .available-sets) mr in
-    let p = holds-of (b .reached .pinned-sets) pr in
+climbing-first {t} {h} {map} {pins} {map′} {pins′} {r} {rest} a b e =
+    let m = holds-of (b .reached .available-sets) (a .map-room) in
+    let p = holds-of (b .reached .pinned-sets) (a .pins-room) in
     record {
-      accepted = a;
+      accepted = a .accepted;
       from = omega arith;
       to = omega arith;
       map-room = m .room;

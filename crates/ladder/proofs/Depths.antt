@@ -13,10 +13,10 @@ use Rattle.table.specs.Check.{Numbers as CheckNumbers, inside, checkRows, check
 use Rattle.table.specs.Meaning.{modelOf}
 use Rattle.scan.specs.Lines.{noLine, lineAt}
 use Rattle.judge.specs.declared.Verdict.{Verdict}
-use Rattle.judge.specs.Admit.{admitOf}
+use Rattle.judge.specs.Admit.{roomOf, admitOf, Admitted}
 use Rattle.judge.specs.After.{mapAfter, pinsAfter}
 use Rattle.judge.specs.Judge.{Numbers, given, numbers, judgeOf, Judged}
-use Rattle.judge.proofs.Admitted.{Admitted, admit-outcome}
+use Rattle.judge.proofs.Admitted.{admit-outcome}
 use Rattle.ladder.specs.declared.Square.{Square}
 use Rattle.ladder.specs.Ladder.{ladderOf, Laddered}
 use Rattle.ladder.proofs.Squares.{lines-at}
@@ -40,7 +40,7 @@ module _ (t : Table) (a b y : ℕ) (e : admitOf t a b .refusal .no ≡ 0) (l : 1
   pub admit-depth : admitOf (atDepth t y) a b ≡ admitOf t a b
   unfolding admitOf
   admit-depth =
-      ap (λ (c : CheckNumbers). cond (eqb (c .refusal .no) 0) (Rattle.judge.specs.Admit.roomOf a b c) c)
+      ap (λ (c : CheckNumbers). cond (eqb (c .refusal .no) 0) (roomOf a b c) c)
       (check-depth t y (fine .accepted .x-low) (fine .accepted .x-high) l g)
 
   ladder-line : getD (ladderOf t a b .lines) (y - 1) noLine ≡ lineAt (modelOf t) y (admitOf t a b .frame)

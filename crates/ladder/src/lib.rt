@@ -1,11 +1,10 @@
 // The ladder: the lines of the depths 1 to 8, each depth worked out from the one before.
 ghost use mathlib.Core.Path.{_≡_};
-ghost use mathlib.Core.List.{List};
-ghost use Prim.Native.Nat.{ℕ, _≤_};
+ghost use Prim.Native.Nat.{_≤_};
 ghost use lib.ListN.{length, replicate};
 ghost use Rattle.table.specs.Check.{none};
-ghost use Rattle.table.specs.Meaning.{Accepted};
 ghost use Rattle.scan.specs.Lines.{noLine, Scannable};
+ghost use Rattle.judge.specs.Admit.{Admitted};
 ghost use Rattle.ladder.specs.Ladder.{Laddered};
 ghost use Rattle.ladder.specs.Core.{three, toLine, Told, Repeated, Measured, Begun, Climbed};
 use scan::Line;
@@ -66,7 +65,7 @@ fn repeated(square: [[u32; 3]; 8], from: usize) -> [[u32; 3]; 8]
 
 // Both lists at depth 1, and the numbers of that depth.
 fn first(t: Table, h: usize, map: &mut [u32], pins: &mut [u32]) -> [u32; 3]
-    requires { ⌜ Accepted t h × (h ≤ length (now map)) × (h ≤ length (now pins)) ⌝ }
+    requires { ⌜ Admitted t (length (now map)) (length (now pins)) h ⌝ }
     ensures { λ r. ⌜ Begun t h (now (map .entry)) (now (pins .entry)) (now (map .exit)) (now (pins .exit)) r ⌝ }
 {
     firstmap::first_map(t, h, map);
@@ -76,7 +75,7 @@ fn first(t: Table, h: usize, map: &mut [u32], pins: &mut [u32]) -> [u32; 3]
 
 // The square of an accepted table, one depth after another, with both lists at depth 8. A depth that changed nothing is as deep as any later one.
 fn climb(t: Table, h: usize, map: &mut [u32], pins: &mut [u32]) -> [[u32; 3]; 8]
-    requires { ⌜ Accepted t h × (h ≤ length (now map)) × (h ≤ length (now pins)) ⌝ }
+    requires { ⌜ Admitted t (length (now map)) (length (now pins)) h ⌝ }
     ensures { λ r. ⌜ Climbed t h (now (map .entry)) (now (pins .entry)) (now (map .exit)) (now (pins .exit)) r ⌝ }
 {
     let mut square = [[0u32; 3]; 8];

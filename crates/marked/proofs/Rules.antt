@@ -8,7 +8,6 @@ use native.Mathlib.Omega.{arith}
 use lib.Dec.{eqb}
 use lib.ListN.{length, getD}
 use borrow.Author.Tests.{eqb-true, le-ltb}
-use Rattle.model.specs.Sum.{all}
 use Rattle.model.specs.Depths.{available, pinnedAt}
 use Rattle.model.proofs.Bools.{and-left, and-right}
 use Rattle.model.proofs.Tests.{all-at}
@@ -25,6 +24,7 @@ use Rattle.judge.proofs.Admitted.{admit-frame}
 use Rattle.judge.proofs.Meaning.{map-left, pins-left}
 use Rattle.marked.specs.declared.Case.{Case}
 use Rattle.marked.specs.Case.{noCase, tableOf, modelIn, lineIn, checks, sameLine, answers, mapped, pinnedIn, right}
+use Rattle.marked.specs.Paper.{Kept}
 
 -- an entry that agrees with the rules
 pub record Right (c : Case) : Type 0 where
@@ -63,8 +63,12 @@ right-is c e =
     }
 
 -- the one statement, at each entry
-pub marked-right : (cases : List Case) → all 10 (λ i. right (getD cases i noCase)) ≡ true → (i : ℕ) → i < 10 → Right (getD cases i noCase)
-marked-right cases e i l = right-is (getD cases i noCase) (all-at 10 (λ i. right (getD cases i noCase)) e i l)
+pub marked-right : (cases : List Case) → Kept cases → (i : ℕ) → i < 10 → Right (getD cases i noCase)
+marked-right cases k i l = right-is (getD cases i noCase) (all-at 10 (λ i. right (getD cases i noCase)) (k .rules) i l)
+
+-- the contract of the constant determines it
+pub determined : (r s : List Case) → Kept r → Kept s → r ≡ s
+determined r s p q = p .entries ∙ sym (q .entries)
 
 -- the judge on an entry that is right, with lists that are long enough: its verdict is the entry's answer, and its lists hold the words that are told
 module _ (c : Case) (R : Right c) (map pins map′ pins′ : List ℕ) (m : c .frame ≤ length map) (p : c .frame ≤ length pins) (r : Verdict)

@@ -1,3 +1,4 @@
--- When an entry of the marked tables is right.
+-- When an entry of the marked tables is right, and which they are.
 pub mod Rows
 pub mod Case
+pub mod Paper

@@ -5,3 +5,4 @@ pub mod Totals
 pub mod Jobs
 pub mod Slots
 pub mod Passes
+pub mod Determined

@@ -1,4 +1,5 @@
 -- A map's line: its least failing length, with the work and the supply of that length.
+use mathlib.Core.Path.{_≡_}
 use mathlib.Core.Bool.{cond}
 use mathlib.Core.List.{List}
 use Prim.Native.Nat.{ℕ, _≤_}
@@ -9,8 +10,10 @@ use Rattle.model.specs.Depths.{available}
 use Rattle.model.specs.Supply.{supply}
 use Rattle.model.specs.Work.{workDue}
 use Rattle.model.specs.Failing.{leastFailing}
+use Rattle.sets.specs.Word.{word}
+use Rattle.lists.specs.Over.{Holds}
 use Rattle.table.specs.declared.Table.{Table}
-use Rattle.table.specs.Meaning.{Accepted}
+use Rattle.table.specs.Meaning.{modelOf, Accepted}
 use Rattle.scan.specs.declared.Line.{Line}
 
 -- "three zeros for undecided"
@@ -31,3 +34,7 @@ lineAt M y h = lineOf M (available M y) h
 pub record Scannable (t : Table) (h : ℕ) (map : List ℕ) : Type 0 where
   pub accepted : Accepted t h
   pub room : h ≤ length map
+
+-- the line of whatever map the list holds
+abbrev pub Scanned : Table → ℕ → List ℕ → Line → Type 0
+Scanned t h map r = (A : Map) → Holds (λ s. word (t .count) (A s)) h map → r ≡ lineOf (modelOf t) A h

@@ -5,14 +5,11 @@ ghost use lib.Count.{ones};
 ghost use lib.Dec.{eqb};
 ghost use lib.ListN.{length, getD};
 ghost use Rattle.model.specs.Sum.{bit};
-ghost use Rattle.model.specs.Model.{Map};
-ghost use Rattle.sets.specs.Word.{word};
-ghost use Rattle.lists.specs.Over.{Over, Holds};
+ghost use Rattle.lists.specs.Over.{Over};
 ghost use Rattle.table.specs.Rows.{rowAt};
-ghost use Rattle.table.specs.Meaning.{modelOf};
 ghost use Rattle.scan.specs.Dues.{Low, Due, Soonest};
 ghost use Rattle.scan.specs.Supplied.{Supplied};
-ghost use Rattle.scan.specs.Lines.{lineOf, Scannable};
+ghost use Rattle.scan.specs.Lines.{Scannable, Scanned};
 use table::Table;
 
 // A length, the work due in it and its supply; three zeros where no length fails.
@@ -151,7 +148,7 @@ fn supplied(map: &[u32], m: u32, from: usize, to: usize, supply: u32) -> u32
 // The line of the map that a list holds, on the frame h of an accepted table. Between two due times no length is the first to fail.
 pub fn scan(t: Table, h: usize, map: &[u32]) -> Line
     requires { ⌜ Scannable t h (now map) ⌝ }
-    ensures { λ r. ⌜ ((A : Map) → Holds (λ s. word (t .count) (A s)) h (now (map .entry)) → r ≡ lineOf (modelOf t) A h) ⌝ }
+    ensures { λ r. ⌜ Scanned t h (now (map .entry)) r ⌝ }
 {
     let n = count(t.count);
     let end = number(h);

@@ -23,8 +23,7 @@ line-requires : tie.Need-line-requires
 line-requires c κs =
     let start = c .before .before .before .before .before .before .before .before .before in
     let a = admitted (start .args .t) _ _ _ (ap numbers (sym (c .before .before .before .before .c2 .given .1)) ∙ c .before .before .before .before .before .before .admit .ensures) in
-    let e = c .before .before .size .ensures in
-    rw e (a .accepted, a .map-room, a .pins-room)
+    rw (c .before .before .size .ensures) a
 
 verdict-of-requires : tie.Need-verdict-of-requires
 verdict-of-requires c κs = search needs

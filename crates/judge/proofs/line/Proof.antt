@@ -9,21 +9,21 @@ use Rattle.judge.proofs.line.Tie as tie
 first-map-requires : tie.Need-first-map-requires
 first-map-requires c κs =
     let pre = c .before .before .before .pre in
-    (framed _ _ (pre .0), omega (arith, pre .1, pre .2))
+    (framed _ _ (pre .accepted), omega (arith, pre .map-room, pre .pins-room))
 
 deep-requires : tie.Need-deep-requires
 deep-requires c κs =
     let start = c .before .before .before .before .before .before .before .before in
     let first = c .before .before .before .before .first-map .ensures in
-    let held = holds-of first (omega (arith, start .pre .1, start .pre .2)) in
-    ((framed _ _ (start .pre .0), omega (arith, held .room, start .pre .2), omega (arith, held .room, start .pre .2)), held)
+    let held = holds-of first (omega (arith, start .pre .map-room, start .pre .pins-room)) in
+    ((framed _ _ (start .pre .accepted), omega (arith, held .room, start .pre .pins-room), omega (arith, held .room, start .pre .pins-room)), held)
 
 scan-requires : tie.Need-scan-requires
 scan-requires c κs =
     let start = c .before .before .before .before .before .before .before .before .before .before .before .before .before .before in
     record {
-      accepted = start .pre .0;
-      room = holds-of (c .before .before .before .before .before .deep .ensures .available-sets) (holds-of (c .before .before .before .before .before .before .before .before .before .before .first-map .ensures) (start .pre .1) .room) .room;
+      accepted = start .pre .accepted;
+      room = holds-of (c .before .before .before .before .before .deep .ensures .available-sets) (holds-of (c .before .before .before .before .before .before .before .before .before .before .first-map .ensures) (start .pre .map-room) .room) .room;
     }
 
 same-length : tie.Need-same-length
@@ -39,7 +39,7 @@ returns c =
     let deep = c .before .before .before .before .before .before .deep .ensures in
     record {
       reached = record { available-sets = over-then first (deep .available-sets); pinned-sets = deep .pinned-sets };
-      line = c .scan .ensures _ (holds-of (deep .available-sets) (holds-of first (start .pre .1) .room));
+      line = c .scan .ensures _ (holds-of (deep .available-sets) (holds-of first (start .pre .map-room) .room));
     }
 
 pub line-spec : {M : Type 1} → statement M

@@ -25,7 +25,7 @@ array-set-from-square c = search needs
 loop-holds : tie.Need-loop-holds Inv-loop μ-loop
 loop-holds c =
     let start = c .before .before .before .before .before .before .before .before .before in
-    climbing-first (start .pre .0) (start .pre .1) (start .pre .2) (c .before .before .before .before .first .ensures) refl
+    climbing-first (start .pre) (c .before .before .before .before .first .ensures) refl
 
 deepen-requires : tie.Need-deepen-requires Inv-loop μ-loop
 deepen-requires c κs =

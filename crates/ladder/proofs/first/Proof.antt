@@ -7,7 +7,7 @@ use Rattle.ladder.proofs.first.Statement.{statement}
 use Rattle.ladder.proofs.first.Tie as tie
 
 first-map-requires : tie.Need-first-map-requires
-first-map-requires c κs = (framed _ _ (c .before .before .before .pre .0), c .before .before .before .pre .1)
+first-map-requires c κs = (framed _ _ (c .before .before .before .pre .accepted), c .before .before .before .pre .map-room)
 
 zero-requires : tie.Need-zero-requires
 zero-requires c κs = search needs
@@ -25,7 +25,7 @@ returns : tie.Need-returns
 returns c =
     let start = c .before .before .before .before .before .before .before .before .before .before .before .before in
     let map = c .before .before .before .before .before .before .before .before .first-map .ensures in
-    record { reached = reached-first _ _ map (c .before .before .before .before .zero .ensures); line = c .measure .ensures _ (holds-of map (start .pre .1)) }
+    record { reached = reached-first _ _ map (c .before .before .before .before .zero .ensures); line = c .measure .ensures _ (holds-of map (start .pre .map-room)) }
 
 pub first-spec : {M : Type 1} → statement M
 first-spec =

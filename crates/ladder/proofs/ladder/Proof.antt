@@ -26,7 +26,7 @@ climb-requires : tie.Need-climb-requires
 climb-requires c κs =
     let start = c .before .before .before .before .before .before .before .before .before in
     let a = admitted (start .args .t) _ _ _ (ap numbers (sym (c .before .before .before .before .c2 .given .1)) ∙ c .before .before .before .before .before .before .admit .ensures) in
-    rw (c .before .before .size .ensures) (a .accepted, a .map-room, a .pins-room)
+    rw (c .before .before .size .ensures) a
 
 lines-requires : tie.Need-lines-requires
 lines-requires c κs = search needs
