@@ -6,4 +6,4 @@ use Rattle.table.proofs.Accepted.{sound-model, divides-mod}
 use Rattle.firstmap.specs.Framed.{Framed}
 
 pub framed : (t : Table) (h : ℕ) → Accepted t h → Framed t h
-framed t h a = record { fits = a .count-high; sound = sound-model t h a; whole = divides-mod t h a }
+framed t h a = record { fits = a .count-high; sound = sound-model t h a; short = a .frame-high; whole = divides-mod t h a }

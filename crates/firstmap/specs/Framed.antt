@@ -9,4 +9,5 @@ use Rattle.table.specs.Meaning.{modelOf}
 pub record Framed (t : Table) (h : ℕ) : Type 0 where
   pub fits : t .count ≤ 32
   pub sound : Sound (modelOf t)
+  pub short : h ≤ 4096
   pub whole : (i : ℕ) → i < t .count → h % rowAt t i .period ≡ 0

@@ -3,21 +3,20 @@ ghost use mathlib.Core.Path.{_≡_};
 ghost use mathlib.Core.Bool.{cond};
 ghost use Prim.Native.Nat.{ℕ, _%_, _≤_, _<_};
 ghost use lib.Dec.{ltb};
-ghost use lib.ListN.{length};
-ghost use Rattle.model.specs.Windows.{window};
+ghost use lib.ListN.{length, getD};
 ghost use Rattle.model.specs.Depths.{available};
 ghost use Rattle.sets.specs.Word.{word, adding};
 ghost use Rattle.lists.specs.Over.{Over};
 ghost use Rattle.table.specs.Rows.{rowAt};
 ghost use Rattle.table.specs.Meaning.{modelOf};
+ghost use Rattle.firstmap.specs.Columns.{inWindows};
 ghost use Rattle.firstmap.specs.Framed.{Framed};
-use table::Row;
 use table::Table;
 
-fn long(x: u16) -> usize
+fn wide(x: u16) -> u32
     ensures { λ r. ⌜ r ≡ x ⌝ }
 {
-    x as usize
+    x as u32
 }
 
 fn size(x: u8) -> usize
@@ -26,12 +25,33 @@ fn size(x: u8) -> usize
     x as usize
 }
 
-// Whether slot s is in the window of a row's job.
-fn in_window(row: Row, s: usize) -> bool
-    requires { ⌜ 0 < row .period ⌝ }
-    ensures { λ r. ⌜ r ≡ ltb (s % row .period) (row .deadline) ⌝ }
+fn number(s: usize) -> u32
+    requires { ⌜ s ≤ 4096 ⌝ }
+    ensures { λ r. ⌜ r ≡ s ⌝ }
 {
-    s % long(row.period) < long(row.deadline)
+    s as u32
+}
+
+// The rows' periods and deadlines as two lists, so that no slot has to copy the table.
+fn columns(t: Table, n: usize, periods: &mut [u32; 32], deadlines: &mut [u32; 32])
+    requires { ⌜ (n ≤ 32) × (n ≤ length (now periods)) × (n ≤ length (now deadlines)) ⌝ }
+    ensures { λ _. ⌜ Over (λ i. rowAt t i .period) 0 n (now (periods .entry)) (now (periods .exit)) × Over (λ i. rowAt t i .deadline) 0 n (now (deadlines .entry)) (now (deadlines .exit)) ⌝ }
+{
+    let mut i: usize = 0;
+    while i < n {
+        let row = t.rows[i];
+        periods[i] = wide(row.period);
+        deadlines[i] = wide(row.deadline);
+        i += 1;
+    }
+}
+
+// Whether slot s is in the window of a job of a row with this period and deadline.
+fn in_window(period: u32, deadline: u32, s: u32) -> bool
+    requires { ⌜ 0 < period ⌝ }
+    ensures { λ r. ⌜ r ≡ ltb (s % period) deadline ⌝ }
+{
+    s % period < deadline
 }
 
 // w, with row i where b says so.
@@ -42,16 +62,15 @@ fn with_row(w: u32, i: usize, b: bool) -> u32
 }
 
 // The rows in whose windows slot s is, of the first n.
-fn first_word(t: Table, n: usize, s: usize) -> u32
+fn first_word(periods: &[u32; 32], deadlines: &[u32; 32], n: usize, s: u32) -> u32
     requires { ⌜ n ≤ 32 ⌝ }
-    requires { ⌜ ((i : ℕ) → i < n → 0 < rowAt t i .period) ⌝ }
-    ensures { λ r. ⌜ r ≡ word n (window (modelOf t) s) ⌝ }
+    requires { ⌜ ((i : ℕ) → i < n → 0 < getD (now periods) i 0) ⌝ }
+    ensures { λ r. ⌜ r ≡ word n (inWindows (now (periods .entry)) (now (deadlines .entry)) s) ⌝ }
 {
     let mut w: u32 = 0;
     let mut i: usize = 0;
     while i < n {
-        let row = t.rows[i];
-        w = with_row(w, i, in_window(row, s));
+        w = with_row(w, i, in_window(periods[i], deadlines[i], s));
         i += 1;
     }
     w
@@ -63,9 +82,12 @@ pub fn first_map(t: Table, h: usize, map: &mut [u32])
     ensures { λ _. ⌜ Over (λ s. word (t .count) (available (modelOf t) 1 s)) 0 h (now (map .entry)) (now (map .exit)) ⌝ }
 {
     let n = size(t.count);
+    let mut periods = [0u32; 32];
+    let mut deadlines = [0u32; 32];
+    columns(t, n, &mut periods, &mut deadlines);
     let mut s: usize = 0;
     while s < h {
-        map[s] = first_word(t, n, s);
+        map[s] = first_word(&periods, &deadlines, n, number(s));
         s += 1;
     }
 }
