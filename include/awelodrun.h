@@ -3,7 +3,8 @@
  * No function asks anything of the values it gets: every table, file and list has an answer. A list is a pointer and a
  * count of elements, which may be 0; an array with a size in brackets is a pointer to that many. No pointer is null, each
  * is aligned as its type asks, and what a function writes overlaps nothing else that is lent to the same call. No
- * function keeps a pointer, allocates memory, or fails to return.
+ * function keeps a pointer, allocates memory, or fails to return. The judge, the ladder and the shift check's text take
+ * some 36 KiB of stack, the others about 1 KiB.
  *
  * A table is lent as m (processors), x (depth), count, and rows: T, C, D of each row in turn. Numbers past rows_len are
  * taken as 0, and numbers past the 96th are not looked at. A table is given back as 99 numbers: m, x, count, then T, C, D

@@ -122,33 +122,29 @@ impl Checked {
         changed != 0
     }
 
-    /// The least t with more work due than usable supply; work grows at deadlines only, so only these are looked at.
+    /// The least t with more work due than usable supply. What falls due and what is usable are put into lists first, so
+    /// that the walk over the lengths has only two sums to keep.
     fn least_failing(&self, map: &[u32]) -> [u32; 3] {
-        let mut due = [u32::MAX; 32];
-        let (mut period, mut execution) = ([0; 32], [0; 32]);
-        for (i, row) in self.rows().iter().enumerate() {
-            due[i] = row.deadline as u32;
-            period[i] = row.period as u32;
-            execution[i] = row.execution as u32;
+        let mut due = [0; 4096];
+        for row in self.rows() {
+            let (period, deadline) = (row.period as usize, row.deadline as usize);
+            for last in (deadline - 1..self.frame).step_by(period) {
+                unsafe { *due.get_unchecked_mut(last) += row.execution as u32 };
+            }
         }
-        let (mut t, mut work, mut supply) = (0, 0, 0);
-        loop {
-            let next = due.iter().fold(u32::MAX, |least, &due| least.min(due));
-            if next as usize > self.frame {
-                return [0; 3];
-            }
-            let slots = unsafe { map.get_unchecked(t..next as usize) };
-            supply += slots.iter().map(|word| word.count_ones().min(self.m)).sum::<u32>();
-            t = next as usize;
-            for i in 0..32 {
-                let now = due[i] == next;
-                work += if now { execution[i] } else { 0 };
-                due[i] += if now { period[i] } else { 0 };
-            }
+        let mut usable = [0; 4096];
+        for (usable, word) in usable.iter_mut().zip(&map[..self.frame]) {
+            *usable = word.count_ones().min(self.m);
+        }
+        let (mut work, mut supply) = (0, 0);
+        for t in 0..self.frame {
+            work += unsafe { *due.get_unchecked(t) };
+            supply += unsafe { *usable.get_unchecked(t) };
             if work > supply {
-                return [next, work, supply];
+                return [t as u32 + 1, work, supply];
             }
         }
+        [0; 3]
     }
 }
 

@@ -1,8 +1,8 @@
--- Why a scan from due time to due time, by running sums, finds the least failing length.
-pub mod Dues
-pub mod Least
-pub mod Totals
+-- Why running sums of what falls due and of what is usable find the least failing length.
+pub mod Falls
 pub mod Jobs
+pub mod Running
+pub mod Rows
 pub mod Slots
-pub mod Passes
+pub mod Answer
 pub mod Determined

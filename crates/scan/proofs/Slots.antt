@@ -1,8 +1,8 @@
 -- The supply of the words of a list, and the line of the map that the list holds.
 use mathlib.Core.Path.{_≡_, sym, ap, ap₂, _∙_}
 use mathlib.Core.List.{List}
-use Prim.Native.Nat.{ℕ, _+_, _-_, _*_, _≤_, _<_, min}
-use native.Mathlib.Nat.{one-mul, add-sub-of-le, lt-of-lt-of-le}
+use Prim.Native.Nat.{ℕ, _-_, _*_, _≤_, _<_, min}
+use native.Mathlib.Nat.{one-mul, lt-of-lt-of-le}
 use native.Mathlib.Omega.{arith}
 use lib.Count.{ones}
 use lib.ListN.{getD}
@@ -13,32 +13,16 @@ use Rattle.model.specs.Pins.{size}
 use Rattle.model.specs.Supply.{usable, supply}
 use Rattle.model.specs.Work.{workDue}
 use Rattle.model.specs.Failing.{leastFailing, Least}
-use Rattle.model.proofs.Sums.{sum-eq, sum-cut, sum-longer}
+use Rattle.model.proofs.Sums.{sum-eq}
 use Rattle.model.proofs.Least.{least-found, least-none}
 use Rattle.sets.specs.Word.{word}
 use Rattle.sets.proofs.Words.{ones-word}
 use Rattle.lists.specs.Over.{Holds}
 use Rattle.scan.specs.Lines.{noLine, lineOf}
-use Rattle.scan.specs.Supplied.{each, Supplied}
-use Rattle.scan.proofs.Dues.{sum-none}
 
 -- the supply of the first t words of a list, on m processors
 unfoldable pub held : ℕ → List ℕ → ℕ → ℕ
 held m l t = sum t (λ s. min m (ones (getD l s 0)))
-
-pub held-none : (m : ℕ) (l : List ℕ) → held m l 0 ≡ 0
-unfolding held
-held-none m l = sum-none _
-
-pub held-on : (m : ℕ) {l : List ℕ} {a b v w : ℕ} → v ≡ held m l a → a ≤ b → Supplied m l a b v w → w ≡ held m l b
-unfolding held
-held-on m {l} {a} {b} e h q =
-    let f : ℕ → ℕ = λ s. min m (ones (getD l s 0)) in
-    q .total ∙ ap (λ (x : ℕ). x + sum (b - a) (each m l a)) e ∙ sym (sum-cut a (b - a) f) ∙ ap (λ (x : ℕ). sum x f) (add-sub-of-le h)
-
-pub held-grows : (m : ℕ) (l : List ℕ) {a b : ℕ} → a ≤ b → held m l a ≤ held m l b
-unfolding held
-held-grows m l h = sum-longer _ h
 
 -- no length of 1 to k has more work due than the words supply
 abbrev pub Fine : Model → ℕ → List ℕ → ℕ → Type 0

@@ -1,4 +1,4 @@
 -- What a scan of a map gives.
 pub mod Dues
-pub mod Supplied
 pub mod Lines
+pub mod Totals

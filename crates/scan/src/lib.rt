@@ -1,14 +1,13 @@
 // The least length at which more work is due than the slots of a map supply.
 ghost use mathlib.Core.Path.{_≡_};
-ghost use Prim.Native.Nat.{_+_, _*_, _≤_, _<_, min};
+ghost use mathlib.Core.Logic.{_⊎_};
+ghost use Prim.Native.Nat.{ℕ, _+_, _≤_, _<_, min};
 ghost use lib.Count.{ones};
-ghost use lib.Dec.{eqb};
 ghost use lib.ListN.{length, getD};
-ghost use Rattle.model.specs.Sum.{bit};
 ghost use Rattle.lists.specs.Over.{Over};
-ghost use Rattle.table.specs.Rows.{rowAt};
-ghost use Rattle.scan.specs.Dues.{Low, Due, Soonest};
-ghost use Rattle.scan.specs.Supplied.{Supplied};
+ghost use Rattle.scan.specs.Dues.{falling, Falls, fallingIn};
+ghost use Rattle.table.specs.Meaning.{Accepted};
+ghost use Rattle.scan.specs.Totals.{Low, Fails, Passes};
 ghost use Rattle.scan.specs.Lines.{Scannable, Scanned};
 use table::Table;
 
@@ -23,6 +22,12 @@ fn wide(x: u16) -> u32
     ensures { λ r. ⌜ (r ≡ x) × (r < 65536) ⌝ }
 {
     x as u32
+}
+
+fn long(x: u16) -> usize
+    ensures { λ r. ⌜ r ≡ x ⌝ }
+{
+    x as usize
 }
 
 fn few(x: u8) -> u32
@@ -44,18 +49,6 @@ fn number(x: usize) -> u32
     x as u32
 }
 
-fn slot(x: u32) -> usize
-    ensures { λ r. ⌜ r ≡ x ⌝ }
-{
-    x as usize
-}
-
-fn lesser(a: u32, b: u32) -> u32
-    ensures { λ r. ⌜ r ≡ min a b ⌝ }
-{
-    if a < b { a } else { b }
-}
-
 // The smaller of m and the size of the slot's set.
 fn usable(w: u32, m: u32) -> u32
     requires { ⌜ m < 256 ⌝ }
@@ -65,109 +58,66 @@ fn usable(w: u32, m: u32) -> u32
     if m < c { m } else { c }
 }
 
-// The rows' numbers as three lists: each row is due first at its deadline.
-fn columns(
-    t: Table,
-    n: usize,
-    next: &mut [u32; 32],
-    executions: &mut [u32; 32],
-    periods: &mut [u32; 32],
-)
-    requires { ⌜ (n ≤ 32) × (n ≤ length (now next)) × (n ≤ length (now executions)) × (n ≤ length (now periods)) ⌝ }
-    ensures { λ _. ⌜ Over (λ i. rowAt t i .deadline) 0 n (now (next .entry)) (now (next .exit)) × Over (λ i. rowAt t i .execution) 0 n (now (executions .entry)) (now (executions .exit)) × Over (λ i. rowAt t i .period) 0 n (now (periods .entry)) (now (periods .exit)) ⌝ }
+// What each slot of a map supplies, in a list of its own: no exit and no sum, so that it is done many slots at a time.
+fn usables(map: &[u32], m: u32, h: usize, list: &mut [u32; 4096])
+    requires { ⌜ (m < 256) × (h ≤ 4096) × (h ≤ length (now map)) × (h ≤ length (now list)) ⌝ }
+    ensures { λ _. ⌜ Over (λ s. min m (ones (getD (now (map .entry)) s 0))) 0 h (now (list .entry)) (now (list .exit)) ⌝ }
+{
+    let mut s: usize = 0;
+    while s < h {
+        list[s] = usable(map[s], m);
+        s += 1;
+    }
+}
+
+// Adds a row's work to the slots in which its windows end.
+fn row_dues(list: &mut [u32; 4096], period: usize, execution: u32, deadline: usize, h: usize)
+    requires { ⌜ (0 < deadline) × (deadline ≤ period) × (period ≤ 4096) × (h ≤ 4096) × (h ≤ length (now list)) ⌝ }
+    requires { ⌜ ((s : ℕ) → s < h → getD (now list) s 0 + execution < 4294967296) ⌝ }
+    ensures { λ _. ⌜ Falls (λ s. falling period execution deadline s) h (now (list .entry)) (now (list .exit)) ⌝ }
+{
+    let mut s: usize = deadline - 1;
+    while s < h {
+        list[s] = list[s] + execution;
+        s += period;
+    }
+}
+
+// Adds the work of all rows to the slots in which their windows end.
+fn dues(t: Table, n: usize, h: usize, list: &mut [u32; 4096])
+    requires { ⌜ (n ≡ t .count) × Accepted t h × (h ≤ length (now list)) ⌝ }
+    requires { ⌜ ((s : ℕ) → s < h → getD (now list) s 0 ≡ 0) ⌝ }
+    ensures { λ _. ⌜ Falls (fallingIn t n) h (now (list .entry)) (now (list .exit)) ⌝ }
 {
     let mut i: usize = 0;
     while i < n {
         let row = t.rows[i];
-        next[i] = wide(row.deadline);
-        executions[i] = wide(row.execution);
-        periods[i] = wide(row.period);
+        row_dues(
+            list,
+            long(row.period),
+            wide(row.execution),
+            long(row.deadline),
+            h,
+        );
         i += 1;
     }
 }
 
-// a, and x more where d is the time.
-fn grown(a: u32, d: u32, time: u32, x: u32) -> u32
-    requires { ⌜ (d ≡ time → a + x < 4294967296) ⌝ }
-    ensures { λ r. ⌜ (r ≡ a + x * bit (eqb d time)) × (r ≤ a + x) ⌝ }
+// The least length at which the sum of the dues is greater than that of the usable supply.
+fn least(dues: &[u32; 4096], usables: &[u32; 4096], h: usize) -> Line
+    requires { ⌜ (h ≤ 4096) × Low 2097152 h (now dues) × Low 256 h (now usables) ⌝ }
+    ensures { λ r. ⌜ Fails (now (dues .entry)) (now (usables .entry)) h r ⊎ Passes (now (dues .entry)) (now (usables .entry)) h r ⌝ }
 {
-    if d == time { a + x } else { a }
-}
-
-// Adds to the work what falls due at a time, and moves each row that did to its next due time. No branch, so that it is done many rows at a time.
-fn due(
-    executions: &[u32; 32],
-    periods: &[u32; 32],
-    n: usize,
-    time: u32,
-    work: u32,
-    next: &mut [u32; 32],
-) -> u32
-    requires { ⌜ (n ≤ 32) × (n ≤ length (now next)) × (time ≤ 4096) × (work ≤ 1048576) × Low n (now executions) × Low n (now periods) ⌝ }
-    ensures { λ r. ⌜ Due (λ i. getD (now (executions .entry)) i 0) (λ i. getD (now (periods .entry)) i 0) n time work (now (next .entry)) (now (next .exit)) r ⌝ }
-{
-    let mut sum: u32 = work;
-    let mut i: usize = 0;
-    while i < n {
-        let d = next[i];
-        sum = grown(sum, d, time, executions[i]);
-        next[i] = grown(d, d, time, periods[i]);
-        i += 1;
-    }
-    sum
-}
-
-// The soonest time at which one of the first n rows is due, or the end where that comes first.
-fn soonest(next: &[u32; 32], n: usize, end: u32) -> u32
-    requires { ⌜ n ≤ 32 ⌝ }
-    ensures { λ r. ⌜ Soonest n (now (next .entry)) end r ⌝ }
-{
-    let mut time: u32 = end;
-    let mut i: usize = 0;
-    while i < n {
-        time = lesser(next[i], time);
-        i += 1;
-    }
-    time
-}
-
-// Adds to the supply that of the slots between two lengths: one sum with no exit, so that it is done many slots at a time.
-fn supplied(map: &[u32], m: u32, from: usize, to: usize, supply: u32) -> u32
-    requires { ⌜ (m < 256) × (from ≤ to) × (to ≤ 4096) × (to ≤ length (now map)) × (supply ≤ 256 * from) ⌝ }
-    ensures { λ r. ⌜ Supplied m (now (map .entry)) from to supply r ⌝ }
-{
-    let mut sum: u32 = supply;
-    let mut k: usize = from;
-    while k < to {
-        sum = sum + usable(map[k], m);
-        k += 1;
-    }
-    sum
-}
-
-// The line of the map that a list holds, on the frame h of an accepted table. Between two due times no length is the first to fail.
-pub fn scan(t: Table, h: usize, map: &[u32]) -> Line
-    requires { ⌜ Scannable t h (now map) ⌝ }
-    ensures { λ r. ⌜ Scanned t h (now (map .entry)) r ⌝ }
-{
-    let n = count(t.count);
-    let end = number(h);
-    let mut next = [0u32; 32];
-    let mut executions = [0u32; 32];
-    let mut periods = [0u32; 32];
-    columns(t, n, &mut next, &mut executions, &mut periods);
     let mut supply: u32 = 0;
     let mut work: u32 = 0;
     let mut k: usize = 0;
     while k < h {
-        let time = soonest(&next, n, end);
-        let to = slot(time);
-        supply = supplied(map, few(t.processors), k, to, supply);
-        work = due(&executions, &periods, n, time, work, &mut next);
-        k = to;
+        supply = supply + usables[k];
+        work = work + dues[k];
+        k += 1;
         if supply < work {
             return Line {
-                t: time,
+                t: number(k),
                 work,
                 supply,
             };
@@ -178,4 +128,16 @@ pub fn scan(t: Table, h: usize, map: &[u32]) -> Line
         work: 0,
         supply: 0,
     }
+}
+
+// The line of the map that a list holds, on the frame h of an accepted table.
+pub fn scan(t: Table, h: usize, map: &[u32]) -> Line
+    requires { ⌜ Scannable t h (now map) ⌝ }
+    ensures { λ r. ⌜ Scanned t h (now (map .entry)) r ⌝ }
+{
+    let mut due = [0u32; 4096];
+    dues(t, count(t.count), h, &mut due);
+    let mut usable = [0u32; 4096];
+    usables(map, few(t.processors), h, &mut usable);
+    least(&due, &usable, h)
 }

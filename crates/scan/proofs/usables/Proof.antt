@@ -1,0 +1,67 @@
+-- Slot after slot, what it supplies is put at its place.
+use mathlib.Core.Path.{_≡_}
+use Prim.Native.Nat.{_-_, _≤_, min}
+use native.Mathlib.Omega.{arith}
+use lib.Count.{ones}
+use lib.ListN.{getD}
+use Rattle.lists.specs.Over.{Over}
+use Rattle.lists.proofs.Overs.{over-none, over-more}
+use Rattle.scan.proofs.usables.Statement.{statement}
+use Rattle.scan.proofs.usables.Tie as tie
+
+abbrev Inv-loop : tie.InvT-loop
+Inv-loop map m h list₀ s₀ list s = (s ≤ h) × Over (λ k. min m (ones (getD map k 0))) 0 s list₀ list
+
+abbrev μ-loop : tie.MeasureT-loop
+μ-loop map m h list₀ s₀ list s = h - s
+
+loop-holds : tie.Need-loop-holds Inv-loop μ-loop
+loop-holds c = (omega arith, over-none _ _ _)
+
+mul-usable : tie.Need-mul-usable Inv-loop μ-loop
+mul-usable c = omega arith
+
+shared-slice-read-usable : tie.Need-shared-slice-read-usable Inv-loop μ-loop
+shared-slice-read-usable c = omega arith
+
+usable-requires : tie.Need-usable-requires Inv-loop μ-loop
+usable-requires c κs = omega arith
+
+mul-list : tie.Need-mul-list Inv-loop μ-loop
+mul-list c = omega arith
+
+element-write-list : tie.Need-element-write-list Inv-loop μ-loop
+element-write-list c = omega arith
+
+add-s : tie.Need-add-s Inv-loop μ-loop
+add-s c = omega arith
+
+loop-less : tie.Need-loop-less Inv-loop μ-loop
+loop-less c = omega arith
+
+loop-again : tie.Need-loop-again Inv-loop μ-loop
+loop-again c =
+    let at = c .before .before .before .loop .inv in
+    (omega arith, over-more (at .1) (omega arith) (omega arith) (c .usable .ensures .0))
+
+returns : tie.Need-returns Inv-loop μ-loop
+returns c =
+    let e : c .before .loop .s ≡ c .before .before .before .args .h = omega arith in
+    rw e at (c .before .loop .inv .1)
+
+pub usables-spec : {M : Type 1} → statement M
+usables-spec =
+    tie.close
+    (tie.spec
+    Inv-loop
+    μ-loop
+    loop-holds
+    mul-usable
+    shared-slice-read-usable
+    usable-requires
+    mul-list
+    element-write-list
+    add-s
+    loop-less
+    loop-again
+    returns)
