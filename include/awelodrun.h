@@ -56,6 +56,10 @@ enum {
 /* The check of a table. answer: no, entry, row, frame. */
 void awelodrun_check(uint8_t m, uint8_t x, uint8_t count, const uint16_t *rows, size_t rows_len, uint32_t answer[4]);
 
+/* The check of a lent list of rows, T, C, D of each row in turn. It has a row for each three numbers of rows_len; what a
+ * last row lacks is taken as 0. A list of no row, or of more than 32, is refused with 3. answer: no, entry, row, frame. */
+void awelodrun_check_list(uint8_t m, uint8_t x, const uint16_t *rows, size_t rows_len, uint32_t answer[4]);
+
 /* The judge of a table. answer: no, entry, row, t, work, supply, frame. The table is infeasible where t is not 0: t is
  * the least length at which more work is due than the slots supply. With no refusal and t 0 it is undecided.
  * map and pins have room for at least frame words each, 4,096 at most. After a verdict the first words, as many as the

@@ -1,5 +1,6 @@
 -- The laws behind the C functions.
 pub mod Reading
+pub mod Lists
 pub mod Upto
 pub mod Threes
 pub mod Table

@@ -1,7 +1,9 @@
 -- A table as it is lent and as it is given back: m, x, count, and three numbers a row.
-use Prim.Native.Nat.{ℕ, zero, suc, _+_, _*_}
+use Prim.Native.Nat.{ℕ, zero, suc, _+_, _*_, _/_, _%_}
+use mathlib.Core.Bool.{cond}
 use mathlib.Core.List.{List, [], _∷_, _++_}
-use lib.ListN.{getD}
+use lib.Dec.{eqb}
+use lib.ListN.{length, getD}
 use Rattle.table.specs.declared.Row.{Row}
 use Rattle.table.specs.declared.Table.{Table}
 
@@ -20,6 +22,14 @@ rowsOf l (suc k) = rowsOf l k ++ (rowOf l k ∷ [])
 -- the table that is lent: "room for 32 rows", so numbers past the 96th are not looked at
 unfoldable pub tableOf : ℕ → ℕ → ℕ → List ℕ → Table
 tableOf m x count l = record { processors = m; depth = x; count = count; rows = rowsOf l 32 }
+
+-- how many rows n numbers are; a last row that is not whole is one too
+unfoldable pub rowsIn : ℕ → ℕ
+rowsIn n = cond (eqb (n % 3) 0) (n / 3) (n / 3 + 1)
+
+-- "A caller may also lend its rows as a list": all its rows, however many
+abbrev pub listOf : List ℕ → List Row
+listOf l = rowsOf l (rowsIn (length l))
 
 -- three numbers of each member of a list in turn
 unfoldable pub threes : {A : Type 0} → (A → ℕ) → (A → ℕ) → (A → ℕ) → List A → List ℕ

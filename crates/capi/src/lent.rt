@@ -2,7 +2,7 @@
 ghost use mathlib.Core.Path.{_≡_};
 ghost use Prim.Native.Nat.{_<_};
 ghost use lib.ListN.{getD};
-ghost use Rattle.capi.specs.Lent.{rowOf, rowsOf, tableOf, numbersOf};
+ghost use Rattle.capi.specs.Lent.{rowOf, rowsOf, rowsIn, tableOf, numbersOf};
 use table::Row;
 use table::Table;
 
@@ -14,7 +14,7 @@ fn number(l: &[u16], k: usize) -> u16
 }
 
 fn read_row(l: &[u16], i: usize) -> Row
-    requires { ⌜ i < 32 ⌝ }
+    requires { ⌜ i < 33 ⌝ }
     ensures { λ r. ⌜ r ≡ rowOf (now (l .entry)) i ⌝ }
 {
     let at = 3 * i;
@@ -53,6 +53,31 @@ pub fn read_table(m: u8, x: u8, count: u8, l: &[u16]) -> Table
         count,
         rows,
     }
+}
+
+// How many rows a list of so many numbers has.
+pub fn rows_in(len: usize) -> usize
+    ensures { λ r. ⌜ r ≡ rowsIn len ⌝ }
+{
+    if len % 3 == 0 { len / 3 } else { len / 3 + 1 }
+}
+
+// The first rows of a list, up to one more than a table has room for.
+pub fn read_list(l: &[u16]) -> [Row; 33]
+    ensures { λ r. ⌜ r ≡ rowsOf (now (l .entry)) 33 ⌝ }
+{
+    let none = Row {
+        period: 0,
+        execution: 0,
+        deadline: 0,
+    };
+    let mut rows = [none; 33];
+    let mut i: usize = 0;
+    while i < 33 {
+        rows[i] = read_row(l, i);
+        i += 1;
+    }
+    rows
 }
 
 fn wide(x: u8) -> u16

@@ -1,7 +1,8 @@
-// Tables for C: the check, the judge and the ladder.
+// Tables for C: the checks of a table and of a list of rows, the judge and the ladder.
 ghost use mathlib.Core.Path.{_≡_};
 ghost use Rattle.table.specs.Check.{checkOf};
-ghost use Rattle.capi.specs.Lent.{tableOf};
+ghost use Rattle.rowlist.specs.List.{checkList};
+ghost use Rattle.capi.specs.Lent.{tableOf, listOf};
 ghost use Rattle.capi.specs.Answers.{checkAnswer};
 ghost use Rattle.capi.specs.Outcomes.{Judges, Ladders};
 use crate::answers;
@@ -13,6 +14,15 @@ pub extern "C" fn awelodrun_check(m: u8, x: u8, count: u8, rows: &[u16], answer:
     ensures { λ _. ⌜ now (answer .exit) ≡ checkAnswer (checkOf (tableOf m x count (now (rows .entry)))) ⌝ }
 {
     *answer = answers::of_check(table::check(lent::read_table(m, x, count, rows)));
+}
+
+// The check of a lent list of rows: no, entry, row, frame.
+#[no_mangle]
+pub extern "C" fn awelodrun_check_list(m: u8, x: u8, rows: &[u16], answer: &mut [u32; 4])
+    ensures { λ _. ⌜ now (answer .exit) ≡ checkAnswer (checkList m x (listOf (now (rows .entry)))) ⌝ }
+{
+    let n = lent::rows_in(rows.len());
+    *answer = answers::of_check(rowlist::check_lent(m, x, lent::read_list(rows), n));
 }
 
 // The judge: no, entry, row, t, work, supply, frame.

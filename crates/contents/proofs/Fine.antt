@@ -13,7 +13,8 @@ use Rattle.contents.specs.Refusals.{inTurn}
 use Rattle.contents.specs.Kinds.{kindOf, isRefused}
 use Rattle.contents.specs.Entries.{countOf, formOf, kindAt, numberAt, startAt, lengthAt, placeOf, seekIn}
 use Rattle.contents.specs.Contents.{headRefusal, entryRefusal, leftOver, entriesRefusal, contentsRefusal}
-use Rattle.contents.proofs.Refusals.{when-passed, unless-passed, first-fine, turn-all}
+use Rattle.table.proofs.First.{first-fine}
+use Rattle.contents.proofs.Refusals.{when-passed, unless-passed, turn-all}
 
 pub record HeadFine (s : List ℕ) : Type 0 where
   pub four : 4 ≤ length s

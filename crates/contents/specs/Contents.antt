@@ -5,7 +5,8 @@ use lib.ListN.{length}
 use lib.Dec.{leb, ltb, eqb}
 use Rattle.table.specs.declared.Refusal.{Refusal}
 use Rattle.table.specs.Check.{refuse, none, inside}
-use Rattle.contents.specs.Refusals.{when, unless, first, inTurn}
+use Rattle.table.specs.First.{first}
+use Rattle.contents.specs.Refusals.{when, unless, inTurn}
 use Rattle.contents.specs.Kinds.{kindOf, isRefused}
 use Rattle.contents.specs.Entries.{countOf, formOf, kindAt, numberAt, startAt, lengthAt, placeOf, seekIn}
 

@@ -3,28 +3,21 @@ use mathlib.Core.Path.{_≡_, sym, ap, _∙_}
 use mathlib.Core.Logic.{⊎-elim}
 use Prim.Native.Nat.{ℕ, _<_}
 use native.Mathlib.Omega.{arith}
-use lib.Dec.{eqb}
-use borrow.Author.Tests.{le-ltb, ne-eqb, eqb-true, eqb-false}
-use Rattle.model.proofs.Bools.{lt-or-ge, test}
+use borrow.Author.Tests.{le-ltb, ne-eqb}
+use Rattle.model.proofs.Bools.{lt-or-ge}
 use Rattle.table.specs.declared.Row.{Row}
 use Rattle.table.specs.declared.Table.{Table}
 use Rattle.table.specs.declared.Refusal.{Refusal}
 use Rattle.table.specs.Check.{none, checkOf}
 use Rattle.table.proofs.Accepted.{outcome}
-use Rattle.edit.specs.Edit.{added, removed, noSuchRow, first, edited, addOf, removeOf}
-use Rattle.edit.proofs.Steps.{gives, first-next, first-here, add-settled, remove-settled}
+use Rattle.table.specs.First.{first}
+use Rattle.table.proofs.First.{first-fine}
+use Rattle.edit.specs.Edit.{added, removed, noSuchRow, edited, addOf, removeOf}
+use Rattle.edit.proofs.Steps.{gives, add-settled, remove-settled}
 
 -- a refusal with number 0 has no row and no entry either
 pub no-refusal : (t : Table) → checkOf t .refusal .no ≡ 0 → checkOf t .refusal ≡ none
 no-refusal t e = ⊎-elim (λ f. f .1) (λ r. absurd (omega (arith, r .number))) (outcome t)
-
--- of two refusals in order, none means none of both
-first-both : (r s : Refusal) → first r s .no ≡ 0 → (r .no ≡ 0) × (s .no ≡ 0)
-first-both r s e =
-    ⊎-elim
-    (λ y. let z = eqb-true (r .no) 0 y in (z, sym (ap (λ (x : Refusal). x .no) (first-next r s z)) ∙ e))
-    (λ y. absurd (eqb-false (r .no) 0 y (sym (ap (λ (x : Refusal). x .no) (first-here r s (eqb-false (r .no) 0 y))) ∙ e)))
-    (test (eqb (r .no) 0))
 
 -- the table that comes back is the result or the given one, by the refusal
 refused-same : (t : Table) (r : Refusal) (result : Table) → (edited t r result .refusal .no ≡ 0 → ⊥) → edited t r result .table ≡ t
@@ -34,7 +27,7 @@ refused-same t r result f = rw (ne-eqb _ _ f)
 module _ (t : Table) (row : Row) where
   pub both : addOf t row .refusal .no ≡ 0 → (checkOf t .refusal .no ≡ 0) × (checkOf (added t row) .refusal .no ≡ 0)
   unfolding addOf edited
-  both e = first-both (checkOf t .refusal) (checkOf (added t row) .refusal) e
+  both e = first-fine (checkOf t .refusal) (checkOf (added t row) .refusal) e
 
   -- a refused add gives the table back
   pub add-refused : (addOf t row .refusal .no ≡ 0 → ⊥) → addOf t row .table ≡ t
@@ -56,8 +49,8 @@ module _ (t : Table) (index : ℕ) where
       → (checkOf t .refusal .no ≡ 0) × ((noSuchRow t index .no ≡ 0) × (checkOf (removed t index) .refusal .no ≡ 0))
   unfolding removeOf edited
   all e =
-      let b = first-both (checkOf t .refusal) (first (noSuchRow t index) (checkOf (removed t index) .refusal)) e in
-      (b .0, first-both (noSuchRow t index) (checkOf (removed t index) .refusal) (b .1))
+      let b = first-fine (checkOf t .refusal) (first (noSuchRow t index) (checkOf (removed t index) .refusal)) e in
+      (b .0, first-fine (noSuchRow t index) (checkOf (removed t index) .refusal) (b .1))
 
   -- the row is there
   pub row-there : noSuchRow t index .no ≡ 0 → index < t .count

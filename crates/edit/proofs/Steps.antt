@@ -1,5 +1,5 @@
 -- How the code comes to each answer.
-use mathlib.Core.Path.{_≡_, sym, ap, _∙_}
+use mathlib.Core.Path.{_≡_, refl, sym, ap, _∙_}
 use mathlib.Core.Bool.{true}
 use mathlib.Core.List.{[], _∷_, _++_}
 use Prim.Native.Nat.{ℕ, _≤_, _<_}
@@ -14,7 +14,9 @@ use Rattle.table.specs.Rows.{rowAt}
 use Rattle.table.specs.Check.{Numbers, refuse, none, refused, inside, checkOf}
 use Rattle.table.proofs.Accepted.{accepted}
 use Rattle.table.proofs.Steps.{rows-count}
-use Rattle.edit.specs.Edit.{rowsOf, added, removed, noSuchRow, first, edited, addOf, removeOf}
+use Rattle.table.specs.First.{first}
+use Rattle.table.proofs.First.{first-next, first-here}
+use Rattle.edit.specs.Edit.{rowsOf, added, removed, noSuchRow, edited, addOf, removeOf}
 use Rattle.edit.proofs.Rows.{length-added}
 
 -- the table as it came, with the refusal; and the result, with none
@@ -26,20 +28,12 @@ pub gives : (t : Table) (r : Refusal) (result : Table) → r .no ≡ 0 → recor
 unfolding edited
 gives t r result e = rw (eq-eqb _ _ e)
 
-pub first-here : (r s : Refusal) → (r .no ≡ 0 → ⊥) → first r s ≡ r
-unfolding first
-first-here r s f = rw (ne-eqb _ _ f)
-
-pub first-next : (r s : Refusal) → r .no ≡ 0 → first r s ≡ s
-unfolding first
-first-next r s e = rw (eq-eqb _ _ e)
-
 pub inside-is : (low x high : ℕ) → low ≤ x → x ≤ high → inside low x high ≡ true
 inside-is low x high h g = and-true (le-leb _ _ h) (le-leb _ _ g)
 
 -- the first refusal is the answer
 stops : (t result : Table) (p r s : Refusal) → r ≡ p → (r .no ≡ 0 → ⊥) → record { refusal = r; table = t } ≡ edited t (first p s) result
-stops t result p r s e f = keeps t r result f ∙ ap (λ (x : Refusal). edited t x result) (sym (first-here r s f) ∙ ap (λ (x : Refusal). first x s) e)
+stops t result p r s e f = keeps t r result f ∙ ap (λ (x : Refusal). edited t x result) (first-here r s f ∙ ap (λ (x : Refusal). first x s) e)
 
 module _ (t : Table) (row : Row) where
   pub add-given : (r : Refusal) → r ≡ checkOf t .refusal → (r .no ≡ 0 → ⊥) → record { refusal = r; table = t } ≡ addOf t row
@@ -60,11 +54,11 @@ module _ (t : Table) (row : Row) where
   add-full l e h =
       keeps t (refuse 3 0 0) (added t row) (λ z. omega arith)
       ∙ ap (λ (x : Refusal). edited t x (added t row))
-      (sym (first-next (checkOf t .refusal) _ e ∙ ap (λ (x : Numbers). x .refusal) (full-is-3 l e h)))
+      (sym (ap (λ (x : Numbers). x .refusal) (full-is-3 l e h)) ∙ first-next (checkOf t .refusal) _ e)
 
   pub add-settled : checkOf t .refusal .no ≡ 0 → edited t (checkOf (added t row) .refusal) (added t row) ≡ addOf t row
   unfolding addOf
-  add-settled e = rw (first-next (checkOf t .refusal) (checkOf (added t row) .refusal) e)
+  add-settled e = rw (← first-next (checkOf t .refusal) (checkOf (added t row) .refusal) e)
 
 module _ (t : Table) (index : ℕ) where
   pub remove-given : (r : Refusal) → r ≡ checkOf t .refusal → (r .no ≡ 0 → ⊥) → record { refusal = r; table = t } ≡ removeOf t index
@@ -75,9 +69,9 @@ module _ (t : Table) (index : ℕ) where
   unfolding removeOf noSuchRow
   remove-none e h =
       stops t (removed t index) (noSuchRow t index) (refuse 18 0 0) (checkOf (removed t index) .refusal) (rw (le-ltb _ _ h)) (λ z. omega arith)
-      ∙ ap (λ (x : Refusal). edited t x (removed t index)) (sym (first-next (checkOf t .refusal) _ e))
+      ∙ ap (λ (x : Refusal). edited t x (removed t index)) (first-next (checkOf t .refusal) _ e)
 
   pub remove-settled : checkOf t .refusal .no ≡ 0 → index < t .count
       → edited t (checkOf (removed t index) .refusal) (removed t index) ≡ removeOf t index
   unfolding removeOf noSuchRow
-  remove-settled e h = rw (first-next (checkOf t .refusal) _ e, lt-ltb _ _ h, first-next none)
+  remove-settled e h = rw (← first-next (checkOf t .refusal) _ e, lt-ltb _ _ h, ← first-next none _ refl)

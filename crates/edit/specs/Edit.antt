@@ -9,6 +9,7 @@ use Rattle.table.specs.declared.Table.{Table}
 use Rattle.table.specs.declared.Refusal.{Refusal}
 use Rattle.table.specs.Rows.{noRow}
 use Rattle.table.specs.Check.{refuse, none, checkOf}
+use Rattle.table.specs.First.{first}
 use Rattle.edit.specs.declared.Edited.{Edited}
 
 -- the rows up to the count
@@ -35,10 +36,6 @@ removed t index = withRows t (take index (rowsOf t) ++ drop (suc index) (rowsOf 
 -- 18: "remove: no such row"
 unfoldable pub noSuchRow : Table → ℕ → Refusal
 noSuchRow t index = cond (ltb index (t .count)) none (refuse 18 0 0)
-
--- the first of two refusals in order
-unfoldable pub first : Refusal → Refusal → Refusal
-first r s = cond (eqb (r .no) 0) s r
 
 -- the result where there is no refusal, and else "the table they got"
 unfoldable pub edited : Table → Refusal → Table → Edited

@@ -13,7 +13,8 @@ use Rattle.table.proofs.Least.{least-below, least-none}
 use Rattle.contents.specs.Kinds.{kindOf, isTable}
 use Rattle.contents.specs.Entries.{countOf, kindAt, numberAt, bodyAt, seekIn}
 use Rattle.contents.specs.Contents.{headRefusal, entryRefusal, entriesRefusal, contentsRefusal}
-use Rattle.contents.proofs.Refusals.{first-next, turn-fine}
+use Rattle.table.proofs.First.{first-next}
+use Rattle.contents.proofs.Refusals.{turn-fine}
 use Rattle.contents.proofs.Steps.{head-fine, entry-fine, all-fine}
 use Rattle.contents.proofs.Fine.{HeadFine, EntryFine, ContentsFine}
 use Rattle.bodies.specs.Refusal.{bodyRefusal}

@@ -13,7 +13,7 @@ use Rattle.contents.specs.Refusals.{unless}
 use Rattle.contents.specs.Kinds.{kindOf, isTable}
 use Rattle.contents.specs.Entries.{countOf, kindAt, numberAt, bodyAt, seekIn}
 use Rattle.contents.specs.File.{entryAt, entriesFrom, entriesOf}
-use Rattle.contents.proofs.Refusals.{first-next}
+use Rattle.table.proofs.First.{first-next}
 use Rattle.bodies.specs.Body.{tableOf}
 use Rattle.taskfile.specs.declared.Found.{Found}
 use Rattle.taskfile.specs.Check.{fileRefusal}

@@ -8,7 +8,8 @@ use lib.Dec.{leb, ltb, eqb}
 use Rattle.table.specs.declared.Refusal.{Refusal}
 use Rattle.table.specs.declared.Table.{Table}
 use Rattle.table.specs.Check.{refuse, none}
-use Rattle.contents.specs.Refusals.{when, unless, first}
+use Rattle.table.specs.First.{first}
+use Rattle.contents.specs.Refusals.{when, unless}
 use Rattle.contents.specs.Kinds.{kindOf, isNote}
 use Rattle.contents.specs.Entries.{countOf, kindAt}
 use Rattle.contents.specs.File.{Entry, encode, entriesOf}

@@ -7,3 +7,4 @@ pub mod Ranges
 pub mod Accepted
 pub mod Past
 pub mod Determined
+pub mod First

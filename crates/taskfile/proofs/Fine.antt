@@ -13,7 +13,8 @@ use Rattle.contents.specs.Refusals.{when, unless, inTurn}
 use Rattle.contents.specs.Kinds.{kindOf, isTable}
 use Rattle.contents.specs.Entries.{countOf, kindAt, sumAt, bodyAt}
 use Rattle.contents.specs.Contents.{contentsRefusal}
-use Rattle.contents.proofs.Refusals.{unless-passed, first-fine, turn-all}
+use Rattle.table.proofs.First.{first-fine}
+use Rattle.contents.proofs.Refusals.{unless-passed, turn-all}
 use Rattle.contents.proofs.Fine.{ContentsFine, contents-are-fine}
 use Rattle.bodies.proofs.Refusals.{BodyFine, body-is-fine}
 use Rattle.taskfile.specs.Check.{inEntry, partRefusal, fileRefusal}

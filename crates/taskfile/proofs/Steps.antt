@@ -10,7 +10,7 @@ use Rattle.contents.specs.Refusals.{when, unless, inTurn}
 use Rattle.contents.specs.Kinds.{kindOf, isTable}
 use Rattle.contents.specs.Entries.{countOf, kindAt, sumAt, bodyAt}
 use Rattle.contents.specs.Contents.{contentsRefusal}
-use Rattle.contents.proofs.Refusals.{first-next, first-here}
+use Rattle.table.proofs.First.{first-next, first-here}
 use Rattle.bodies.specs.Body.{tableOf}
 use Rattle.bodies.specs.Refusal.{bodyRefusal}
 use Rattle.taskfile.specs.declared.CheckedFile.the-variants.{Entries, Refused}

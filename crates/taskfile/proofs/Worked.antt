@@ -12,7 +12,8 @@ use Rattle.table.specs.Least.{least, leastFrom}
 use Rattle.table.specs.Divisor.{divisor, divisorIn, multiple}
 use Rattle.wire.specs.Number.{at16, at32}
 use Rattle.wire.specs.Sum.{sumOf, sumFrom}
-use Rattle.contents.specs.Refusals.{when, unless, first, inTurn}
+use Rattle.table.specs.First.{first}
+use Rattle.contents.specs.Refusals.{when, unless, inTurn}
 use Rattle.contents.specs.Kinds.{kindOf}
 use Rattle.contents.specs.Entries.{countOf, formOf, kindAt, numberAt, startAt, lengthAt, sumAt, bodyAt, placeOf, seekIn}
 use Rattle.contents.specs.Contents.{headRefusal, entryRefusal, leftOver, contentsRefusal}

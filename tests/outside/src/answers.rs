@@ -83,6 +83,15 @@ impl Table {
     }
 }
 
+/// The rows of a list of numbers, T, C, D of each in turn; what a last row lacks is 0.
+pub fn rows_of(numbers: &[u16]) -> Vec<Row> {
+    let row = |three: &[u16]| {
+        let number = |k: usize| three.get(k).copied().unwrap_or(0);
+        Row { period: number(0), execution: number(1), deadline: number(2) }
+    };
+    numbers.chunks(3).map(row).collect()
+}
+
 /// A table as a caller of the static library passes it: T, C, D of each row in turn.
 #[derive(Clone, Debug, PartialEq, Eq)]
 pub struct Given {

@@ -58,6 +58,13 @@ pub fn check(run: &mut Run, given: &Given) -> Compared<Checked> {
     Ok(expected)
 }
 
+pub fn check_list(run: &mut Run, m: u8, x: u8, numbers: &[u16]) -> Compared<Checked> {
+    let expected = Reference.check_list(m, x, numbers);
+    let got = run.subject.check_list(m, x, numbers);
+    run.same(|| format!("check of the list m {m} x {x} {numbers:?}"), expected, got)?;
+    Ok(expected)
+}
+
 /// The two lists for the reference and the same two for the library.
 fn two_lists(run: &mut Run, lengths: (usize, usize)) -> [Lent<u32>; 4] {
     let map = words(&mut run.random, lengths.0);

@@ -7,6 +7,7 @@ use crate::subject::Subject;
 
 extern "C" {
     fn awelodrun_check(m: u8, x: u8, count: u8, rows: *const u16, rows_len: usize, answer: *mut [u32; 4]);
+    fn awelodrun_check_list(m: u8, x: u8, rows: *const u16, rows_len: usize, answer: *mut [u32; 4]);
     fn awelodrun_judge(
         m: u8,
         x: u8,
@@ -102,6 +103,12 @@ impl Subject for Library {
         let rows = &table.numbers;
         let mut answer = [MARK; 4];
         unsafe { awelodrun_check(table.m, table.x, table.count, rows.as_ptr(), rows.len(), &mut answer) };
+        Checked { refusal: refusal(&answer), frame: answer[3] }
+    }
+
+    fn check_list(&self, m: u8, x: u8, numbers: &[u16]) -> Checked {
+        let mut answer = [MARK; 4];
+        unsafe { awelodrun_check_list(m, x, numbers.as_ptr(), numbers.len(), &mut answer) };
         Checked { refusal: refusal(&answer), frame: answer[3] }
     }
 

@@ -6,6 +6,7 @@ mod files;
 mod hand;
 mod lists;
 mod puts;
+mod row_lists;
 mod small;
 mod sound;
 mod table_faults;
@@ -22,17 +23,19 @@ use std::time::Instant;
 /// A group's name, its share of the seconds (0 where its inputs are listed and not drawn), and its cases.
 type Group = (&'static str, f64, fn(&mut Run) -> Outcome);
 
-const GROUPS: [Group; 15] = [
+const GROUPS: [Group; 17] = [
     ("hand tables and examples", 0.0, hand::tables),
     ("hand files", 0.0, hand::files),
     ("faults of a table, two at once", 0.0, table_faults::pairs),
     ("numbers passed, fewer and more", 0.0, table_faults::lengths),
+    ("lists of rows of every length", 0.0, row_lists::lengths),
     ("faults of a file, two at once", 0.0, file_faults::pairs),
     ("files cut, changed and lengthened", 0.0, files::damaged),
     ("long files", 0.0, files::long),
     ("all small tables", 0.0, small::all),
     ("word lists of every nearby length", 0.10, lists::nearby),
-    ("random tables", 0.35, tables::random),
+    ("random tables", 0.32, tables::random),
+    ("random lists of rows", 0.03, row_lists::random),
     ("infeasible has no schedule", 0.10, sound::against_flow),
     ("add and remove", 0.10, edits::random),
     ("random files", 0.15, files::random),

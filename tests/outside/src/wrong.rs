@@ -6,7 +6,7 @@ pub mod judge;
 pub mod put;
 pub mod table;
 
-use crate::answers::{Checked, Filed, Given, Judged, Ladder, Row, Tabled, Written};
+use crate::answers::{Checked, Filed, Given, Judged, Ladder, Refusal, Row, Tabled, Written};
 use crate::subject::Subject;
 
 /// A second implementation with one wrong turn in it; with the empty name it has none.
@@ -24,12 +24,19 @@ pub fn turns() -> Vec<&'static str> {
     [table::TURNS, judge::TURNS, edit::TURNS, file::TURNS, put::TURNS].concat()
 }
 
+fn checked(frame: Result<u32, Refusal>) -> Checked {
+    match frame {
+        Ok(frame) => Checked { frame, ..Checked::default() },
+        Err(refusal) => Checked { refusal, frame: 0 },
+    }
+}
+
 impl Subject for Wrong {
     fn check(&self, given: &Given) -> Checked {
-        match table::frame_of(self, &given.table()) {
-            Ok(frame) => Checked { frame, ..Checked::default() },
-            Err(refusal) => Checked { refusal, frame: 0 },
-        }
+        checked(table::frame_of(self, &given.table()))
+    }
+    fn check_list(&self, m: u8, x: u8, numbers: &[u16]) -> Checked {
+        checked(table::frame_of_list(self, m, x, numbers))
     }
     fn judge(&self, given: &Given, map: &mut [u32], pins: &mut [u32]) -> Judged {
         judge::judge(self, &given.table(), map, pins)

@@ -63,10 +63,18 @@ pub fn frame_of_list(m: u8, x: u8, rows: &[Row]) -> Result<u32, Refusal> {
     Ok(frame as u32)
 }
 
-/// The check's answer: the frame, or the refusal with frame 0.
-pub fn check(table: &Table) -> Checked {
-    match frame_of(table) {
+/// A check's answer: the frame, or the refusal with frame 0.
+fn answer(given: Result<u32, Refusal>) -> Checked {
+    match given {
         Ok(frame) => Checked { refusal: Refusal::default(), frame },
         Err(refusal) => Checked { refusal, frame: 0 },
     }
+}
+
+pub fn check(table: &Table) -> Checked {
+    answer(frame_of(table))
+}
+
+pub fn check_list(m: u8, x: u8, rows: &[Row]) -> Checked {
+    answer(frame_of_list(m, x, rows))
 }

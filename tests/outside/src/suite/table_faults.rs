@@ -57,6 +57,8 @@ fn faults(rows: &[usize]) -> Vec<Fault> {
 fn everything(run: &mut Run, given: &Given) -> Outcome {
     let checked = compare::check(run, given)?;
     run.tally(if checked.refusal.no == 0 { "good" } else { "refused" });
+    let used = given.numbers.len().min(3 * given.count as usize);
+    compare::check_list(run, given.m, given.x, &given.numbers[..used])?;
     let lists = if checked.frame > 64 { (0, 0) } else { (64, 64) };
     compare::judge(run, given, lists)?;
     compare::ladder(run, given, lists)?;

@@ -1,7 +1,7 @@
 //! The check of a table, with its wrong turns.
 
 use super::Wrong;
-use crate::answers::{Refusal, Row, Table};
+use crate::answers::{Given, Refusal, Row, Table};
 
 pub const TURNS: &[&str] = &[
     "m up to 15",
@@ -22,6 +22,11 @@ pub const TURNS: &[&str] = &[
     "frame below 4,096",
     "frame by the product",
     "one row past the count",
+    "a list of 33 rows by its first 32",
+    "an empty list's frame is 1",
+    "a list's count rolls over at 256",
+    "a list's last row only where it is whole",
+    "a list's depth is its m",
 ];
 
 pub fn refuse(no: u32, row: usize) -> Refusal {
@@ -107,4 +112,18 @@ pub fn frame_of(w: &Wrong, table: &Table) -> Result<u32, Refusal> {
         Some(refusal) => Err(refusal),
         None => Ok(frame),
     }
+}
+
+/// The frame of a lent list of rows, by way of a table of as many.
+pub fn frame_of_list(w: &Wrong, m: u8, x: u8, numbers: &[u16]) -> Result<u32, Refusal> {
+    let whole = w.turn("a list's last row only where it is whole");
+    let rows = if whole { numbers.len() / 3 } else { numbers.len().div_ceil(3) };
+    let most = if w.turn("a list of 33 rows by its first 32") { 32 } else { 33 };
+    let count = if w.turn("a list's count rolls over at 256") { rows as u8 } else { rows.min(most) as u8 };
+    let x = if w.turn("a list's depth is its m") { m } else { x };
+    let frame = frame_of(w, &Given { m, x, count, numbers: numbers.to_vec() }.table());
+    if rows == 0 && w.turn("an empty list's frame is 1") && frame == Err(refuse(3, 0)) {
+        return Ok(1);
+    }
+    frame
 }
