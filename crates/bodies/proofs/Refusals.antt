@@ -7,8 +7,8 @@ use lib.Dec.{ltb, eqb}
 use borrow.Author.Tests.{eq-eqb, ne-eqb, lt-ltb, le-ltb, eqb-true, eqb-false, ltb-false}
 use Rattle.table.specs.declared.Refusal.{Refusal}
 use Rattle.table.specs.Check.{refuse}
-use Rattle.contents.specs.Refusals.{when, unless}
-use Rattle.contents.proofs.Refusals.{when-passed, unless-passed}
+use Rattle.table.specs.Refusals.{when, unless}
+use Rattle.table.proofs.Refusals.{when-passed, unless-passed}
 use Rattle.bodies.specs.Body.{tableOf}
 use Rattle.bodies.specs.Refusal.{tableRefusal, bodyRefusal}
 

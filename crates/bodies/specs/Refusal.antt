@@ -6,7 +6,7 @@ use lib.Dec.{ltb, eqb}
 use Rattle.table.specs.declared.Refusal.{Refusal}
 use Rattle.table.specs.declared.Table.{Table}
 use Rattle.table.specs.Check.{refuse, checkOf}
-use Rattle.contents.specs.Refusals.{when, unless}
+use Rattle.table.specs.Refusals.{when, unless}
 use Rattle.bodies.specs.Body.{tableOf}
 
 -- 1 to 7 of a table

@@ -9,12 +9,11 @@ use borrow.Author.Tests.{eqb-true, eqb-false, leb-true, ltb-false}
 use Rattle.table.specs.declared.Refusal.{Refusal}
 use Rattle.table.specs.Check.{refuse, none, inside}
 use Rattle.table.proofs.Ranges.{inside-true}
-use Rattle.contents.specs.Refusals.{inTurn}
-use Rattle.contents.specs.Kinds.{kindOf, isRefused}
-use Rattle.contents.specs.Entries.{countOf, formOf, kindAt, numberAt, startAt, lengthAt, placeOf, seekIn}
+use Rattle.table.specs.Refusals.{inTurn}
+use Rattle.entries.specs.Kinds.{kindOf, isRefused}
+use Rattle.entries.specs.Entries.{countOf, formOf, kindAt, numberAt, startAt, lengthAt, placeOf, seekIn}
 use Rattle.contents.specs.Contents.{headRefusal, entryRefusal, leftOver, entriesRefusal, contentsRefusal}
-use Rattle.table.proofs.First.{first-fine}
-use Rattle.contents.proofs.Refusals.{when-passed, unless-passed, turn-all}
+use Rattle.table.proofs.Refusals.{first-fine, when-passed, unless-passed, turn-all}
 
 pub record HeadFine (s : List ℕ) : Type 0 where
   pub four : 4 ≤ length s

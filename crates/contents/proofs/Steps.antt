@@ -8,12 +8,11 @@ use lib.ListN.{length}
 use borrow.Author.Tests.{eq-eqb, ne-eqb, le-leb, lt-leb, lt-ltb, le-ltb}
 use Rattle.table.specs.declared.Refusal.{Refusal}
 use Rattle.table.specs.Check.{refuse, none, inside}
-use Rattle.contents.specs.Refusals.{when, unless, inTurn}
-use Rattle.contents.specs.Kinds.{kindOf, isRefused}
-use Rattle.contents.specs.Entries.{countOf, formOf, kindAt, numberAt, startAt, lengthAt, placeOf, seekIn}
+use Rattle.table.specs.Refusals.{when, unless, inTurn}
+use Rattle.entries.specs.Kinds.{kindOf, isRefused}
+use Rattle.entries.specs.Entries.{countOf, formOf, kindAt, numberAt, startAt, lengthAt, placeOf, seekIn}
 use Rattle.contents.specs.Contents.{headRefusal, entryRefusal, leftOver, entriesRefusal, contentsRefusal}
-use Rattle.table.proofs.First.{first-next, first-here}
-use Rattle.contents.proofs.Refusals.{turn-fine, turn-here}
+use Rattle.table.proofs.Refusals.{first-next, first-here, turn-fine, turn-here}
 
 -- 9, 10, 11
 module _ (s : List ℕ) where

@@ -5,10 +5,9 @@ use lib.ListN.{length}
 use lib.Dec.{leb, ltb, eqb}
 use Rattle.table.specs.declared.Refusal.{Refusal}
 use Rattle.table.specs.Check.{refuse, none, inside}
-use Rattle.table.specs.First.{first}
-use Rattle.contents.specs.Refusals.{when, unless, inTurn}
-use Rattle.contents.specs.Kinds.{kindOf, isRefused}
-use Rattle.contents.specs.Entries.{countOf, formOf, kindAt, numberAt, startAt, lengthAt, placeOf, seekIn}
+use Rattle.table.specs.Refusals.{when, unless, first, inTurn}
+use Rattle.entries.specs.Kinds.{kindOf, isRefused}
+use Rattle.entries.specs.Entries.{countOf, formOf, kindAt, numberAt, startAt, lengthAt, placeOf, seekIn}
 
 -- 9: "file under 4 or over 65,535 bytes"; 10: "form not 1"; 11: "n outside 1 to 64, or contents longer than the file"
 unfoldable pub headRefusal : List ℕ → ℕ

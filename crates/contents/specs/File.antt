@@ -4,7 +4,7 @@ use mathlib.Core.List.{List, [], _∷_, _++_}
 use lib.ListN.{length}
 use Rattle.wire.specs.Number.{bytes16, bytes32}
 use Rattle.wire.specs.Sum.{sumOf}
-use Rattle.contents.specs.Entries.{countOf, kindAt, numberAt, bodyAt}
+use Rattle.entries.specs.Entries.{countOf, kindAt, numberAt, bodyAt}
 
 pub record Entry : Type 0 where
   pub kind : ℕ

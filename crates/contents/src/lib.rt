@@ -3,59 +3,9 @@ ghost use mathlib.Core.Path.{_≡_};
 ghost use Prim.Native.Nat.{_+_, _*_, _≤_, _<_};
 ghost use lib.ListN.{length};
 ghost use Rattle.table.specs.Check.{refuse, inside};
-ghost use Rattle.contents.specs.Kinds.{kindOf, isTable, isNote, isRefused};
-ghost use Rattle.contents.specs.Entries.{countOf, placeOf};
+ghost use Rattle.entries.specs.Entries.{countOf, placeOf};
 ghost use Rattle.contents.specs.Contents.{headRefusal, entryRefusal, entriesRefusal, contentsRefusal};
 use table::Refusal;
-
-pub mod entries;
-
-// What a kind number says of an entry.
-pub enum Kind {
-    Table,
-    Note,
-    Refused,
-}
-
-pub fn kind_of(k: u16) -> Kind
-    ensures { λ r. ⌜ r ≡ kindOf k ⌝ }
-{
-    match k {
-        1 => Kind::Table,
-        128..=255 => Kind::Note,
-        _ => Kind::Refused,
-    }
-}
-
-pub fn is_table(k: Kind) -> bool
-    ensures { λ r. ⌜ r ≡ isTable k ⌝ }
-{
-    match k {
-        Kind::Table => true,
-        Kind::Note => false,
-        Kind::Refused => false,
-    }
-}
-
-pub fn is_note(k: Kind) -> bool
-    ensures { λ r. ⌜ r ≡ isNote k ⌝ }
-{
-    match k {
-        Kind::Table => false,
-        Kind::Note => true,
-        Kind::Refused => false,
-    }
-}
-
-fn is_refused(k: Kind) -> bool
-    ensures { λ r. ⌜ r ≡ isRefused k ⌝ }
-{
-    match k {
-        Kind::Table => false,
-        Kind::Note => false,
-        Kind::Refused => true,
-    }
-}
 
 // A refusal by its numbers.
 pub fn refusal(no: u8, entry: u8, row: u8) -> Refusal
@@ -99,7 +49,7 @@ fn entry_refusal(s: &[u8], i: u16, place: usize) -> u8
     requires { ⌜ (place ≡ placeOf (now s) i) × (place ≤ length (now s)) × (length (now s) ≤ 65535) ⌝ }
     ensures { λ r. ⌜ r ≡ entryRefusal (now (s .entry)) i ⌝ }
 {
-    if is_refused(kind_of(entries::kind_at(s, i))) {
+    if entries::is_refused(entries::kind_of(entries::kind_at(s, i))) {
         return 12;
     }
     if wire::size(entries::start_at(s, i)) != place {

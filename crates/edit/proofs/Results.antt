@@ -10,8 +10,8 @@ use Rattle.table.specs.declared.Table.{Table}
 use Rattle.table.specs.declared.Refusal.{Refusal}
 use Rattle.table.specs.Check.{none, checkOf}
 use Rattle.table.proofs.Accepted.{outcome}
-use Rattle.table.specs.First.{first}
-use Rattle.table.proofs.First.{first-fine}
+use Rattle.table.specs.Refusals.{first}
+use Rattle.table.proofs.Refusals.{first-fine}
 use Rattle.edit.specs.Edit.{added, removed, noSuchRow, edited, addOf, removeOf}
 use Rattle.edit.proofs.Steps.{gives, add-settled, remove-settled}
 

@@ -14,8 +14,8 @@ use Rattle.table.specs.Rows.{rowAt}
 use Rattle.table.specs.Check.{Numbers, refuse, none, refused, inside, checkOf}
 use Rattle.table.proofs.Accepted.{accepted}
 use Rattle.table.proofs.Steps.{rows-count}
-use Rattle.table.specs.First.{first}
-use Rattle.table.proofs.First.{first-next, first-here}
+use Rattle.table.specs.Refusals.{first}
+use Rattle.table.proofs.Refusals.{first-next, first-here}
 use Rattle.edit.specs.Edit.{rowsOf, added, removed, noSuchRow, edited, addOf, removeOf}
 use Rattle.edit.proofs.Rows.{length-added}
 

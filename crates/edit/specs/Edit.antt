@@ -9,7 +9,7 @@ use Rattle.table.specs.declared.Table.{Table}
 use Rattle.table.specs.declared.Refusal.{Refusal}
 use Rattle.table.specs.Rows.{noRow}
 use Rattle.table.specs.Check.{refuse, none, checkOf}
-use Rattle.table.specs.First.{first}
+use Rattle.table.specs.Refusals.{first}
 use Rattle.edit.specs.declared.Edited.{Edited}
 
 -- the rows up to the count

@@ -8,7 +8,7 @@ use mathlib.Core.List.{List}
 use lib.ListN.{length, drop, length-drop}
 use lib.Seq.{length-take-le}
 use Rattle.table.specs.Check.{none}
-use Rattle.contents.specs.Entries.{countOf, numberAt, startAt, lengthAt, bodyAt, placeOf}
+use Rattle.entries.specs.Entries.{countOf, numberAt, startAt, lengthAt, bodyAt, placeOf}
 use Rattle.contents.specs.File.{Entry, encode, entryAt, entriesFrom, entriesOf}
 use Rattle.contents.proofs.Fine.{EntryFine}
 use Rattle.bodies.proofs.Refusals.{body-is-fine}

@@ -10,11 +10,10 @@ use Rattle.model.proofs.Bools.{and-true}
 use Rattle.table.specs.declared.Refusal.{Refusal}
 use Rattle.table.specs.Check.{none}
 use Rattle.table.proofs.Least.{least-below, least-none}
-use Rattle.contents.specs.Kinds.{kindOf, isTable}
-use Rattle.contents.specs.Entries.{countOf, kindAt, numberAt, bodyAt, seekIn}
+use Rattle.entries.specs.Kinds.{kindOf, isTable}
+use Rattle.entries.specs.Entries.{countOf, kindAt, numberAt, bodyAt, seekIn}
 use Rattle.contents.specs.Contents.{headRefusal, entryRefusal, entriesRefusal, contentsRefusal}
-use Rattle.table.proofs.First.{first-next}
-use Rattle.contents.proofs.Refusals.{turn-fine}
+use Rattle.table.proofs.Refusals.{first-next, turn-fine}
 use Rattle.contents.proofs.Steps.{head-fine, entry-fine, all-fine}
 use Rattle.contents.proofs.Fine.{HeadFine, EntryFine, ContentsFine}
 use Rattle.bodies.specs.Refusal.{bodyRefusal}

@@ -7,7 +7,7 @@ use mathlib.Core.List.{List, [], _∷_, _++_, append-assoc}
 use lib.ListN.{length, take, drop, take-append-drop}
 use lib.Seq.{drop-drop, drop-length}
 use Rattle.wire.specs.Number.{at16, bytes16, bytes32}
-use Rattle.contents.specs.Entries.{countOf, formOf, kindAt, numberAt, startAt, lengthAt, sumAt, bodyAt}
+use Rattle.entries.specs.Entries.{countOf, formOf, kindAt, numberAt, startAt, lengthAt, sumAt, bodyAt}
 use Rattle.contents.specs.File.{Entry, headOf, headsOf, bodiesOf, encode}
 use Rattle.filelaws.specs.Valid.{Bytes}
 use Rattle.filelaws.proofs.Numbers.{pair, bytes32-at, bytes16-at}

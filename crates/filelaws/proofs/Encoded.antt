@@ -10,9 +10,9 @@ use borrow.Author.Tests.{eqb-true, ltb-true}
 use Rattle.model.proofs.Bools.{clash}
 use Rattle.wire.specs.Number.{bytes16}
 use Rattle.wire.specs.Sum.{sumFrom, sumOf}
-use Rattle.contents.specs.declared.Kind.{Kind}
-use Rattle.contents.specs.Refusals.{when}
-use Rattle.contents.specs.Kinds.{kindOf, isRefused}
+use Rattle.entries.specs.declared.Kind.{Kind}
+use Rattle.table.specs.Refusals.{when}
+use Rattle.entries.specs.Kinds.{kindOf, isRefused}
 use Rattle.contents.specs.File.{Entry, headOf, headsOf, bodiesOf, encode}
 use Rattle.filelaws.specs.Valid.{Bytes, ValidEntry, Each, ValidEntries}
 use Rattle.filelaws.proofs.Bytes.{bytes-none, bytes-join}

@@ -6,7 +6,7 @@ use native.Mathlib.Nat.{eq-or-lt-of-le, add-zero, zero-add}
 use native.Mathlib.Omega.{arith}
 use mathlib.Core.List.{List}
 use lib.ListN.{length, getD}
-use Rattle.contents.specs.Entries.{countOf, numberAt}
+use Rattle.entries.specs.Entries.{countOf, numberAt}
 use Rattle.contents.specs.File.{Entry, entryAt, entriesFrom, entriesOf}
 use Rattle.filelaws.specs.Valid.{Each, Different}
 

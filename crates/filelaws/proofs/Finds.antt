@@ -9,11 +9,11 @@ use lib.Dec.{ltb, eqb}
 use borrow.Author.Tests.{lt-ltb, le-ltb}
 use Rattle.table.specs.Least.{leastFrom, least}
 use Rattle.table.specs.Check.{refuse, none}
-use Rattle.contents.specs.Refusals.{unless}
-use Rattle.contents.specs.Kinds.{kindOf, isTable}
-use Rattle.contents.specs.Entries.{countOf, kindAt, numberAt, bodyAt, seekIn}
+use Rattle.table.specs.Refusals.{unless}
+use Rattle.entries.specs.Kinds.{kindOf, isTable}
+use Rattle.entries.specs.Entries.{countOf, kindAt, numberAt, bodyAt, seekIn}
 use Rattle.contents.specs.File.{entryAt, entriesFrom, entriesOf}
-use Rattle.table.proofs.First.{first-next}
+use Rattle.table.proofs.Refusals.{first-next}
 use Rattle.bodies.specs.Body.{tableOf}
 use Rattle.taskfile.specs.declared.Found.{Found}
 use Rattle.taskfile.specs.Check.{fileRefusal}

@@ -10,7 +10,7 @@ use lib.Dec.{ltb, eqb}
 use borrow.Author.Tests.{lt-ltb, le-ltb}
 use Rattle.table.specs.declared.Table.{Table}
 use Rattle.table.specs.Least.{leastFrom, least}
-use Rattle.contents.specs.Entries.{countOf, numberAt, seekIn}
+use Rattle.entries.specs.Entries.{countOf, numberAt, seekIn}
 use Rattle.contents.specs.File.{Entry, entryAt, entriesFrom, entriesOf}
 use Rattle.taskfile.specs.Find.{seekOf}
 use Rattle.fileput.specs.Put.{tableEntry, putEntry, newEntries, newFile}

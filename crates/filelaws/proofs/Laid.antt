@@ -8,7 +8,7 @@ use lib.ListN.{length, take, drop, length-append}
 use lib.Seq.{drop-drop, drop-at, drop-append-seam, take-append-seam}
 use Rattle.wire.specs.Number.{at16, at32}
 use Rattle.wire.specs.Sum.{sumOf}
-use Rattle.contents.specs.Entries.{countOf, formOf, kindAt, numberAt, startAt, lengthAt, sumAt, bodyAt}
+use Rattle.entries.specs.Entries.{countOf, formOf, kindAt, numberAt, startAt, lengthAt, sumAt, bodyAt}
 use Rattle.contents.specs.File.{Entry, headOf, headsOf, bodiesOf, encode, entryAt, entriesFrom, entriesOf}
 use Rattle.filelaws.proofs.Numbers.{two, four, at16-drop, at32-drop}
 

@@ -4,7 +4,7 @@ use Prim.Native.Nat.{ℕ, _<_}
 use native.Mathlib.Decide.{decLt}
 use native.Mathlib.Omega.{arith}
 use mathlib.Core.List.{List}
-use Rattle.contents.specs.Entries.{countOf, numberAt}
+use Rattle.entries.specs.Entries.{countOf, numberAt}
 use Rattle.taskfile.specs.Check.{fileRefusal}
 use Rattle.taskfile.proofs.Fine.{file-is-fine}
 use Rattle.filelaws.proofs.Accepts.{fresh-of}

@@ -10,8 +10,7 @@ use borrow.Author.Tests.{leb-true}
 use Rattle.table.specs.declared.Refusal.{Refusal}
 use Rattle.table.specs.declared.Table.{Table}
 use Rattle.table.specs.Check.{refuse, none}
-use Rattle.table.proofs.First.{first-fine}
-use Rattle.contents.proofs.Refusals.{when-passed, unless-passed}
+use Rattle.table.proofs.Refusals.{first-fine, when-passed, unless-passed}
 use Rattle.bodies.specs.Refusal.{tableRefusal}
 use Rattle.taskfile.specs.Check.{fileRefusal}
 use Rattle.fileput.specs.Put.{newEntries, newFile, noteHas, putRefusal}

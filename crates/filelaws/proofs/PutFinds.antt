@@ -7,9 +7,9 @@ use mathlib.Core.List.{List, [], _∷_}
 use lib.Dec.{ltb, eqb}
 use borrow.Author.Tests.{eq-eqb, ne-eqb, eqb-true}
 use Rattle.table.specs.declared.Table.{Table}
-use Rattle.contents.specs.declared.Kind.{Kind}
-use Rattle.contents.specs.Refusals.{when}
-use Rattle.contents.specs.Kinds.{kindOf, isTable}
+use Rattle.entries.specs.declared.Kind.{Kind}
+use Rattle.table.specs.Refusals.{when}
+use Rattle.entries.specs.Kinds.{kindOf, isTable}
 use Rattle.contents.specs.File.{Entry}
 use Rattle.bodies.specs.Body.{tableOf, tableBytes}
 use Rattle.bodies.specs.Refusal.{tableRefusal}

@@ -7,13 +7,12 @@ use lib.ListN.{length, drop}
 use lib.Dec.{ltb}
 use borrow.Author.Tests.{le-leb}
 use Rattle.table.specs.Check.{none}
-use Rattle.contents.specs.declared.Kind.{Kind}
-use Rattle.table.specs.First.{first}
-use Rattle.contents.specs.Refusals.{when, unless}
-use Rattle.contents.specs.Kinds.{kindOf, isTable, isNote}
-use Rattle.contents.specs.Entries.{countOf, kindAt}
+use Rattle.entries.specs.declared.Kind.{Kind}
+use Rattle.table.specs.Refusals.{when, unless, first}
+use Rattle.entries.specs.Kinds.{kindOf, isTable, isNote}
+use Rattle.entries.specs.Entries.{countOf, kindAt}
 use Rattle.contents.specs.File.{encode, entriesOf}
-use Rattle.table.proofs.First.{first-next}
+use Rattle.table.proofs.Refusals.{first-next}
 use Rattle.bodies.specs.Refusal.{tableRefusal}
 use Rattle.taskfile.specs.declared.Found.{Found}
 use Rattle.taskfile.specs.Check.{fileRefusal}

@@ -8,8 +8,8 @@ use borrow.Author.Tests.{eq-eqb}
 use Rattle.table.specs.declared.Refusal.{Refusal}
 use Rattle.table.specs.declared.Table.{Table}
 use Rattle.table.specs.Check.{none}
-use Rattle.contents.specs.Refusals.{when}
-use Rattle.contents.specs.Kinds.{kindOf}
+use Rattle.table.specs.Refusals.{when}
+use Rattle.entries.specs.Kinds.{kindOf}
 use Rattle.contents.specs.File.{Entry, entriesOf}
 use Rattle.taskfile.specs.declared.CheckedFile.the-variants.{Entries}
 use Rattle.taskfile.specs.Check.{fileRefusal, numbers, checkFile}

@@ -7,7 +7,7 @@ use lib.Dec.{eqb}
 use Rattle.table.specs.declared.Table.{Table}
 use Rattle.table.specs.Check.{refuse, none}
 use Rattle.table.specs.Rows.{noRow}
-use Rattle.contents.specs.Kinds.{kindOf, isTable}
+use Rattle.entries.specs.Kinds.{kindOf, isTable}
 use Rattle.contents.specs.File.{Entry}
 use Rattle.bodies.specs.Body.{tableOf}
 use Rattle.taskfile.specs.declared.Found.{Found}

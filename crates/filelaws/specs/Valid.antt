@@ -4,7 +4,7 @@ use mathlib.Core.Bool.{true, false}
 use Prim.Native.Nat.{ℕ, _≤_, _<_}
 use mathlib.Core.List.{List, [], _∷_}
 use lib.ListN.{length, getD}
-use Rattle.contents.specs.Kinds.{kindOf, isTable, isRefused}
+use Rattle.entries.specs.Kinds.{kindOf, isTable, isRefused}
 use Rattle.contents.specs.File.{Entry, encode}
 use Rattle.bodies.specs.Refusal.{bodyRefusal}
 

@@ -11,7 +11,7 @@ use Rattle.table.specs.declared.Refusal.{Refusal}
 use Rattle.table.specs.declared.Table.{Table}
 use Rattle.wire.specs.Over.{over}
 use Rattle.wire.proofs.Overs.{over-start, take-over}
-use Rattle.contents.specs.Entries.{countOf}
+use Rattle.entries.specs.Entries.{countOf}
 use Rattle.contents.specs.File.{encode}
 use Rattle.bodies.specs.Body.{tableBytes}
 use Rattle.bodies.proofs.Writing.{length-table}

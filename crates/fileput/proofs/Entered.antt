@@ -13,7 +13,7 @@ use lib.Dec.{ltb, eqb}
 use borrow.Author.Tests.{eq-eqb, ne-eqb, lt-ltb, le-ltb, eqb-true, eqb-false}
 use Rattle.table.specs.declared.Table.{Table}
 use Rattle.table.proofs.Least.{least-le, least-below, least-here}
-use Rattle.contents.specs.Entries.{countOf, numberAt, seekIn}
+use Rattle.entries.specs.Entries.{countOf, numberAt, seekIn}
 use Rattle.contents.specs.File.{Entry, entryAt, entriesFrom, entriesOf}
 use Rattle.bodies.specs.Body.{tableBytes}
 use Rattle.taskfile.specs.Find.{seekOf}

@@ -9,12 +9,10 @@ use borrow.Author.Tests.{ne-eqb, lt-ltb, le-ltb, le-leb, lt-leb, eqb-false, leb-
 use Rattle.table.specs.declared.Refusal.{Refusal}
 use Rattle.table.specs.declared.Table.{Table}
 use Rattle.table.specs.Check.{refuse, none}
-use Rattle.table.specs.First.{first}
-use Rattle.contents.specs.Refusals.{when, unless}
-use Rattle.contents.specs.Kinds.{kindOf, isNote}
-use Rattle.contents.specs.Entries.{countOf, kindAt}
-use Rattle.table.proofs.First.{first-next, first-here, first-fine}
-use Rattle.contents.proofs.Refusals.{when-passed, unless-passed}
+use Rattle.table.specs.Refusals.{when, unless, first}
+use Rattle.entries.specs.Kinds.{kindOf, isNote}
+use Rattle.entries.specs.Entries.{countOf, kindAt}
+use Rattle.table.proofs.Refusals.{first-next, first-here, first-fine, when-passed, unless-passed}
 use Rattle.bodies.specs.Refusal.{tableRefusal}
 use Rattle.taskfile.specs.Check.{fileRefusal}
 use Rattle.taskfile.specs.Find.{seekOf}

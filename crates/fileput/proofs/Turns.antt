@@ -8,7 +8,7 @@ use lib.ListN.{length, length-take, length-drop}
 use lib.Dec.{eqb}
 use Rattle.wire.specs.Over.{over}
 use Rattle.wire.proofs.Overs.{next-over}
-use Rattle.contents.specs.Entries.{bodyAt}
+use Rattle.entries.specs.Entries.{bodyAt}
 use Rattle.contents.specs.File.{Entry, headOf, headsOf}
 use Rattle.fileput.specs.Writing.{run, bodyRun, fileLength, newBody}
 use Rattle.fileput.proofs.Runs.{length-head, body-next, length-next, body-most, heads-next, length-run-heads}

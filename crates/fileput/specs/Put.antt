@@ -8,10 +8,9 @@ use lib.Dec.{leb, ltb, eqb}
 use Rattle.table.specs.declared.Refusal.{Refusal}
 use Rattle.table.specs.declared.Table.{Table}
 use Rattle.table.specs.Check.{refuse, none}
-use Rattle.table.specs.First.{first}
-use Rattle.contents.specs.Refusals.{when, unless}
-use Rattle.contents.specs.Kinds.{kindOf, isNote}
-use Rattle.contents.specs.Entries.{countOf, kindAt}
+use Rattle.table.specs.Refusals.{when, unless, first}
+use Rattle.entries.specs.Kinds.{kindOf, isNote}
+use Rattle.entries.specs.Entries.{countOf, kindAt}
 use Rattle.contents.specs.File.{Entry, encode, entriesOf}
 use Rattle.bodies.specs.Body.{tableBytes}
 use Rattle.bodies.specs.Refusal.{tableRefusal}

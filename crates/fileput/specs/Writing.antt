@@ -10,9 +10,8 @@ use Rattle.table.specs.declared.Table.{Table}
 use Rattle.table.specs.Check.{refuse, none}
 use Rattle.wire.specs.Number.{bytes16, bytes32}
 use Rattle.wire.specs.Over.{over}
-use Rattle.table.specs.First.{first}
-use Rattle.contents.specs.Refusals.{when, unless}
-use Rattle.contents.specs.Entries.{kindAt, numberAt, bodyAt}
+use Rattle.table.specs.Refusals.{when, unless, first}
+use Rattle.entries.specs.Entries.{kindAt, numberAt, bodyAt}
 use Rattle.contents.specs.File.{Entry}
 use Rattle.bodies.specs.Refusal.{tableRefusal}
 use Rattle.taskfile.specs.Check.{fileRefusal}

@@ -5,7 +5,7 @@ ghost use lib.ListN.{length};
 ghost use Rattle.contents.specs.File.{encode};
 ghost use Rattle.fileput.specs.Put.{noteHas, Puts};
 ghost use Rattle.fileput.specs.Writing.{run, newBody, newAt, fileLength, newCount, earlyRefusal, lengthRefusal, Writes};
-use contents::entries;
+use entries;
 use table::Refusal;
 use table::Table;
 
@@ -26,7 +26,7 @@ fn note_has(s: &[u8], number: u16) -> bool
     if n <= i {
         return false;
     }
-    contents::is_note(contents::kind_of(entries::kind_at(s, i)))
+    entries::is_note(entries::kind_of(entries::kind_at(s, i)))
 }
 
 // The number of entries with entry i replaced, or added after n.

@@ -10,9 +10,9 @@ use lib.ListN.{length, length-append}
 use borrow.Author.Tests.{eq-eqb, ne-eqb}
 use Rattle.table.specs.declared.Table.{Table}
 use Rattle.table.specs.declared.Refusal.{Refusal}
-use Rattle.contents.specs.Refusals.{when}
-use Rattle.contents.specs.Kinds.{kindOf, isTable}
-use Rattle.contents.specs.Entries.{countOf, kindAt, numberAt, bodyAt}
+use Rattle.table.specs.Refusals.{when}
+use Rattle.entries.specs.Kinds.{kindOf, isTable}
+use Rattle.entries.specs.Entries.{countOf, kindAt, numberAt, bodyAt}
 use Rattle.bodies.specs.Body.{tableOf}
 use Rattle.taskfile.specs.Check.{fileRefusal}
 use Rattle.taskfile.proofs.Fine.{file-is-fine}

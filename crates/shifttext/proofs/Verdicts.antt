@@ -8,8 +8,8 @@ use Rattle.table.specs.declared.Table.{Table}
 use Rattle.table.specs.Check.{checkOf}
 use Rattle.table.specs.Meaning.{modelOf}
 use Rattle.table.proofs.Accepted.{accepted}
-use Rattle.contents.specs.Kinds.{kindOf, isTable}
-use Rattle.contents.specs.Entries.{countOf, kindAt, bodyAt}
+use Rattle.entries.specs.Kinds.{kindOf, isTable}
+use Rattle.entries.specs.Entries.{countOf, kindAt, bodyAt}
 use Rattle.bodies.specs.Body.{tableOf}
 use Rattle.taskfile.specs.Check.{fileRefusal}
 use Rattle.taskfile.proofs.Fine.{file-is-fine}

@@ -4,9 +4,9 @@ use mathlib.Core.List.{List}
 use Prim.Native.Nat.{ℕ, zero, suc}
 use lib.Dec.{eqb}
 use Rattle.table.specs.declared.Table.{Table}
-use Rattle.contents.specs.Refusals.{when}
-use Rattle.contents.specs.Kinds.{kindOf, isTable}
-use Rattle.contents.specs.Entries.{countOf, kindAt, bodyAt}
+use Rattle.table.specs.Refusals.{when}
+use Rattle.entries.specs.Kinds.{kindOf, isTable}
+use Rattle.entries.specs.Entries.{countOf, kindAt, bodyAt}
 use Rattle.bodies.specs.Body.{tableOf}
 use Rattle.taskfile.specs.Check.{fileRefusal}
 use Rattle.judge.specs.After.{mapAfter, pinsAfter}

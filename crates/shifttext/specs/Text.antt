@@ -3,9 +3,9 @@ use mathlib.Core.Bool.{cond}
 use mathlib.Core.List.{List, [], _++_}
 use Prim.Native.Nat.{ℕ, zero, suc}
 use lib.Dec.{eqb}
-use Rattle.contents.specs.Refusals.{when}
-use Rattle.contents.specs.Kinds.{kindOf, isTable}
-use Rattle.contents.specs.Entries.{countOf, kindAt, numberAt, bodyAt}
+use Rattle.table.specs.Refusals.{when}
+use Rattle.entries.specs.Kinds.{kindOf, isTable}
+use Rattle.entries.specs.Entries.{countOf, kindAt, numberAt, bodyAt}
 use Rattle.bodies.specs.Body.{tableOf}
 use Rattle.taskfile.specs.Check.{fileRefusal}
 use Rattle.judge.specs.Judge.{Numbers, judgeOf}

@@ -74,13 +74,13 @@ fn put_entry(
 ) -> usize
     ensures { λ r. ⌜ Entered (now (file .entry)) i (now (map .entry)) (now (pins .entry)) (now (out .entry)) at (now (map .exit)) (now (pins .exit)) (now (out .exit)) r ⌝ }
 {
-    let kind = contents::kind_of(contents::entries::kind_at(file, i));
-    if !contents::is_table(kind) {
+    let kind = entries::kind_of(entries::kind_at(file, i));
+    if !entries::is_table(kind) {
         return at;
     }
-    let t = bodies::read_table(contents::entries::body(file, i));
+    let t = bodies::read_table(entries::body(file, i));
     let v = judge::judge(t, map, pins);
-    put_verdict(out, at, contents::entries::number_at(file, i), v)
+    put_verdict(out, at, entries::number_at(file, i), v)
 }
 
 // Writes the lines of the first n entries, in the order of the contents.
@@ -115,5 +115,5 @@ pub fn shift_text(
     if r.no != 0 {
         return put_refused(out, 0, r);
     }
-    put_lines(file, contents::entries::count(file), map, pins, out)
+    put_lines(file, entries::count(file), map, pins, out)
 }

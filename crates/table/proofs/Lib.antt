@@ -7,4 +7,4 @@ pub mod Ranges
 pub mod Accepted
 pub mod Past
 pub mod Determined
-pub mod First
+pub mod Refusals

@@ -5,4 +5,4 @@ pub mod Frame
 pub mod Rows
 pub mod Check
 pub mod Meaning
-pub mod First
+pub mod Refusals

@@ -7,7 +7,7 @@ use mathlib.Core.List.{List}
 use lib.Dec.{eqb}
 use borrow.Author.Tests.{eqb-true, eqb-false}
 use Rattle.table.specs.declared.Refusal.{Refusal}
-use Rattle.contents.specs.Entries.{countOf}
+use Rattle.entries.specs.Entries.{countOf}
 use Rattle.taskfile.specs.declared.CheckedFile.{CheckedFile}
 use Rattle.taskfile.specs.declared.CheckedFile.the-variants.{Entries, Refused}
 use Rattle.taskfile.specs.declared.Found.{Found}

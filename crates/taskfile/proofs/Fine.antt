@@ -9,12 +9,11 @@ use Rattle.model.proofs.Bools.{and-left, and-right}
 use Rattle.table.specs.declared.Refusal.{Refusal}
 use Rattle.table.specs.Check.{refuse, none}
 use Rattle.wire.specs.Sum.{sumOf}
-use Rattle.contents.specs.Refusals.{when, unless, inTurn}
-use Rattle.contents.specs.Kinds.{kindOf, isTable}
-use Rattle.contents.specs.Entries.{countOf, kindAt, sumAt, bodyAt}
+use Rattle.table.specs.Refusals.{when, unless, inTurn}
+use Rattle.entries.specs.Kinds.{kindOf, isTable}
+use Rattle.entries.specs.Entries.{countOf, kindAt, sumAt, bodyAt}
 use Rattle.contents.specs.Contents.{contentsRefusal}
-use Rattle.table.proofs.First.{first-fine}
-use Rattle.contents.proofs.Refusals.{unless-passed, turn-all}
+use Rattle.table.proofs.Refusals.{first-fine, unless-passed, turn-all}
 use Rattle.contents.proofs.Fine.{ContentsFine, contents-are-fine}
 use Rattle.bodies.proofs.Refusals.{BodyFine, body-is-fine}
 use Rattle.taskfile.specs.Check.{inEntry, partRefusal, fileRefusal}

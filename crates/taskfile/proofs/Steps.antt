@@ -6,11 +6,11 @@ use mathlib.Core.List.{List}
 use borrow.Author.Tests.{eq-eqb, ne-eqb, lt-ltb, le-ltb}
 use Rattle.table.specs.Check.{refuse, none}
 use Rattle.wire.specs.Sum.{sumOf}
-use Rattle.contents.specs.Refusals.{when, unless, inTurn}
-use Rattle.contents.specs.Kinds.{kindOf, isTable}
-use Rattle.contents.specs.Entries.{countOf, kindAt, sumAt, bodyAt}
+use Rattle.table.specs.Refusals.{when, unless, inTurn}
+use Rattle.entries.specs.Kinds.{kindOf, isTable}
+use Rattle.entries.specs.Entries.{countOf, kindAt, sumAt, bodyAt}
 use Rattle.contents.specs.Contents.{contentsRefusal}
-use Rattle.table.proofs.First.{first-next, first-here}
+use Rattle.table.proofs.Refusals.{first-next, first-here}
 use Rattle.bodies.specs.Body.{tableOf}
 use Rattle.bodies.specs.Refusal.{bodyRefusal}
 use Rattle.taskfile.specs.declared.CheckedFile.the-variants.{Entries, Refused}

@@ -12,10 +12,9 @@ use Rattle.table.specs.Least.{least, leastFrom}
 use Rattle.table.specs.Divisor.{divisor, divisorIn, multiple}
 use Rattle.wire.specs.Number.{at16, at32}
 use Rattle.wire.specs.Sum.{sumOf, sumFrom}
-use Rattle.table.specs.First.{first}
-use Rattle.contents.specs.Refusals.{when, unless, inTurn}
-use Rattle.contents.specs.Kinds.{kindOf}
-use Rattle.contents.specs.Entries.{countOf, formOf, kindAt, numberAt, startAt, lengthAt, sumAt, bodyAt, placeOf, seekIn}
+use Rattle.table.specs.Refusals.{when, unless, first, inTurn}
+use Rattle.entries.specs.Kinds.{kindOf}
+use Rattle.entries.specs.Entries.{countOf, formOf, kindAt, numberAt, startAt, lengthAt, sumAt, bodyAt, placeOf, seekIn}
 use Rattle.contents.specs.Contents.{headRefusal, entryRefusal, leftOver, contentsRefusal}
 use Rattle.bodies.specs.Body.{rowOf, rowsOf, roomOf, tableOf}
 use Rattle.bodies.specs.Refusal.{bodyRefusal}

@@ -6,10 +6,9 @@ use lib.Dec.{eqb}
 use Rattle.table.specs.declared.Refusal.{Refusal}
 use Rattle.table.specs.Check.{refuse, none}
 use Rattle.wire.specs.Sum.{sumOf}
-use Rattle.table.specs.First.{first}
-use Rattle.contents.specs.Refusals.{when, unless, inTurn}
-use Rattle.contents.specs.Kinds.{kindOf, isTable}
-use Rattle.contents.specs.Entries.{countOf, kindAt, sumAt, bodyAt}
+use Rattle.table.specs.Refusals.{when, unless, first, inTurn}
+use Rattle.entries.specs.Kinds.{kindOf, isTable}
+use Rattle.entries.specs.Entries.{countOf, kindAt, sumAt, bodyAt}
 use Rattle.contents.specs.Contents.{contentsRefusal}
 use Rattle.bodies.specs.Refusal.{bodyRefusal}
 use Rattle.taskfile.specs.declared.CheckedFile.{CheckedFile}

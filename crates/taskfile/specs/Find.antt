@@ -8,10 +8,9 @@ use Rattle.table.specs.declared.Refusal.{Refusal}
 use Rattle.table.specs.declared.Table.{Table}
 use Rattle.table.specs.Check.{refuse, none}
 use Rattle.table.specs.Rows.{noRow}
-use Rattle.table.specs.First.{first}
-use Rattle.contents.specs.Refusals.{unless}
-use Rattle.contents.specs.Kinds.{kindOf, isTable}
-use Rattle.contents.specs.Entries.{countOf, kindAt, bodyAt, seekIn}
+use Rattle.table.specs.Refusals.{unless, first}
+use Rattle.entries.specs.Kinds.{kindOf, isTable}
+use Rattle.entries.specs.Entries.{countOf, kindAt, bodyAt, seekIn}
 use Rattle.bodies.specs.Body.{tableOf}
 use Rattle.taskfile.specs.declared.Found.{Found}
 use Rattle.taskfile.specs.Check.{fileRefusal}

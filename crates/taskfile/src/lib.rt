@@ -1,10 +1,10 @@
 // The check of a task file, and the table that it has under a number.
 ghost use mathlib.Core.Path.{_≡_};
 ghost use Prim.Native.Nat.{_≤_};
-ghost use Rattle.contents.specs.Refusals.{inTurn};
+ghost use Rattle.table.specs.Refusals.{inTurn};
 ghost use Rattle.taskfile.specs.Check.{inEntry, partRefusal, fileRefusal, numbers, checkFile};
 ghost use Rattle.taskfile.specs.Find.{tableHas, findRefusal, noTable, findOf};
-use contents::entries;
+use entries;
 use table::Refusal;
 use table::Row;
 use table::Table;
@@ -29,7 +29,7 @@ fn part_refusal(s: &[u8], i: u16) -> Refusal
     if wire::body_sum(b) != entries::sum_at(s, i) {
         return contents::refusal(14, 0, 0);
     }
-    if contents::is_table(contents::kind_of(entries::kind_at(s, i))) {
+    if entries::is_table(entries::kind_of(entries::kind_at(s, i))) {
         return bodies::body_refusal(b);
     }
     contents::refusal(0, 0, 0)
@@ -82,7 +82,7 @@ fn table_has(s: &[u8], number: u16) -> bool
     if n <= i {
         return false;
     }
-    contents::is_table(contents::kind_of(entries::kind_at(s, i)))
+    entries::is_table(entries::kind_of(entries::kind_at(s, i)))
 }
 
 // The file's refusal, 17 where no table has the number, or none.

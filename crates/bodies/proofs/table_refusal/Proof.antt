@@ -1,15 +1,13 @@
 -- The refusal that the check gives, or none beside a frame.
 use borrow.Author.Needs.{needs}
-use mathlib.Core.Path.{sym, ap, _∙_}
-use Rattle.table.specs.Check.{Numbers, numbers}
-use mathlib.Core.Path.{_≡_, refl, sym, ap, _∙_}
+use mathlib.Core.Path.{sym, ap, _∙_, _≡_, refl}
+use Rattle.table.specs.Check.{Numbers, numbers, none}
 use mathlib.Core.List.{[], _∷_}
 use borrow.Author.Tests.{eqb-false}
 use types.Run.{OneOf}
 use denote.Enum.Declared.{tagOf}
 use Rattle.table.specs.declared.Checked.{Checked}
 use Rattle.table.specs.declared.Checked.the-variants.{Frame, Refused}
-use Rattle.table.specs.Check.{Numbers, numbers, none}
 use Rattle.table.proofs.Checked.{the-type}
 use Rattle.bodies.proofs.table_refusal.Statement.{statement}
 use Rattle.bodies.proofs.table_refusal.Tie as tie

@@ -5,9 +5,9 @@ use native.Mathlib.Omega.{arith}
 use lib.ListN.{length}
 use borrow.Author.Count.{below-none, below-more}
 use Rattle.table.specs.Check.{refuse}
-use Rattle.contents.specs.Entries.{countOf, lengthAt, placeOf}
+use Rattle.entries.specs.Entries.{countOf, lengthAt, placeOf}
 use Rattle.contents.specs.Contents.{entryRefusal}
-use Rattle.contents.proofs.Parts.{place-first, place-next}
+use Rattle.entries.proofs.Parts.{place-first, place-next}
 use Rattle.contents.proofs.Fine.{HeadFine, head-is-fine, entry-is-fine}
 use Rattle.contents.proofs.Steps.{turn-refused, left-over, all-fine}
 use Rattle.contents.proofs.entries_refusal.Statement.{statement}

@@ -5,8 +5,8 @@ use mathlib.Core.Bool.{false}
 use Prim.Native.Nat.{ℕ, _+_, _≤_}
 use native.Mathlib.Omega.{arith}
 use lib.ListN.{length}
-use Rattle.contents.specs.Kinds.{kindOf, isRefused}
-use Rattle.contents.specs.Entries.{kindAt, numberAt, startAt, lengthAt, placeOf, seekIn}
+use Rattle.entries.specs.Kinds.{kindOf, isRefused}
+use Rattle.entries.specs.Entries.{kindAt, numberAt, startAt, lengthAt, placeOf, seekIn}
 use Rattle.contents.proofs.Steps.{entry-kind, entry-start, entry-end, entry-used, entry-fine}
 use Rattle.contents.proofs.entry_refusal.Statement.{statement}
 use Rattle.contents.proofs.entry_refusal.Tie as tie

@@ -1,14 +1,13 @@
 -- Each return is a step of the definition, by the tests that led there.
 use borrow.Author.Needs.{needs}
 use Rattle.contents.proofs.Steps.{head-length, head-form, head-count, head-short, head-fine}
-use mathlib.Core.Path.{_∙_, sym}
+use mathlib.Core.Path.{_∙_, sym, _≡_, ap}
 use native.Mathlib.Omega.{arith}
-use mathlib.Core.Path.{_≡_, sym, ap, _∙_}
 use mathlib.Core.Bool.{true}
 use lib.ListN.{length}
 use borrow.Author.Tests.{not-true, not-false}
 use Rattle.table.specs.Check.{inside}
-use Rattle.contents.specs.Entries.{countOf, formOf}
+use Rattle.entries.specs.Entries.{countOf, formOf}
 use Rattle.contents.proofs.head_refusal.Statement.{statement}
 use Rattle.contents.proofs.head_refusal.Tie as tie
 

@@ -6,7 +6,7 @@ use Prim.Native.Nat.{ℕ}
 use native.Mathlib.Omega.{arith}
 use lib.ListN.{length}
 use Rattle.table.specs.declared.Refusal.{Refusal}
-use Rattle.contents.specs.Entries.{seekIn}
+use Rattle.entries.specs.Entries.{seekIn}
 use Rattle.bodies.specs.Refusal.{tableRefusal}
 use Rattle.taskfile.specs.Check.{fileRefusal}
 use Rattle.taskfile.proofs.Fine.{file-is-fine}

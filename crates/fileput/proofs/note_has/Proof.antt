@@ -2,8 +2,8 @@
 use borrow.Author.Needs.{needs}
 use mathlib.Core.Path.{_≡_, ap, _∙_}
 use native.Mathlib.Omega.{arith}
-use Rattle.contents.specs.Kinds.{kindOf, isNote}
-use Rattle.contents.specs.Entries.{kindAt, seekIn}
+use Rattle.entries.specs.Kinds.{kindOf, isNote}
+use Rattle.entries.specs.Entries.{kindAt, seekIn}
 use Rattle.taskfile.specs.Find.{seekOf}
 use Rattle.fileput.proofs.Steps.{none-has, entry-has}
 use Rattle.fileput.proofs.note_has.Statement.{statement}

@@ -9,7 +9,7 @@ use lib.Seq.{length-take-le}
 use Rattle.table.specs.declared.Refusal.{Refusal}
 use Rattle.table.proofs.Accepted.{accepted}
 use Rattle.wire.proofs.Overs.{length-over}
-use Rattle.contents.specs.Entries.{countOf, seekIn}
+use Rattle.entries.specs.Entries.{countOf, seekIn}
 use Rattle.bodies.specs.Body.{tableBytes}
 use Rattle.taskfile.specs.Find.{seekOf}
 use Rattle.taskfile.proofs.Fine.{FileFine, file-is-fine}

@@ -2,8 +2,8 @@
 use mathlib.Core.Path.{_≡_, sym, ap, _∙_}
 use borrow.Author.Needs.{needs}
 use borrow.Author.Tests.{not-true, not-false}
-use Rattle.contents.specs.Kinds.{kindOf, isTable}
-use Rattle.contents.specs.Entries.{kindAt}
+use Rattle.entries.specs.Kinds.{kindOf, isTable}
+use Rattle.entries.specs.Entries.{kindAt}
 use Rattle.bodies.specs.Body.{tableOf}
 use Rattle.shifttext.proofs.Texts.{entered-note, entered-table}
 use Rattle.shifttext.proofs.put_entry.Statement.{statement}

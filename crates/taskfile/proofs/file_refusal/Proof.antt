@@ -3,7 +3,7 @@ use borrow.Author.Needs.{needs}
 use mathlib.Core.Path.{_≡_, sym, ap, _∙_}
 use native.Mathlib.Omega.{arith}
 use Rattle.table.specs.declared.Refusal.{Refusal}
-use Rattle.contents.specs.Refusals.{inTurn}
+use Rattle.table.specs.Refusals.{inTurn}
 use Rattle.contents.specs.Contents.{contentsRefusal}
 use Rattle.contents.proofs.Fine.{contents-are-fine}
 use Rattle.taskfile.specs.Check.{inEntry, partRefusal}

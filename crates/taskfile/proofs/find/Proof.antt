@@ -3,7 +3,7 @@ use borrow.Author.Needs.{needs}
 use mathlib.Core.Path.{_≡_, sym, ap, ap₂, _∙_}
 use Rattle.table.specs.declared.Refusal.{Refusal}
 use Rattle.table.specs.declared.Table.{Table}
-use Rattle.contents.specs.Entries.{bodyAt, seekIn}
+use Rattle.entries.specs.Entries.{bodyAt, seekIn}
 use Rattle.bodies.specs.Body.{tableOf}
 use Rattle.taskfile.specs.declared.Found.{Found}
 use Rattle.taskfile.specs.Find.{seekOf}

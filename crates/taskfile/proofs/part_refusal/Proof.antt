@@ -2,8 +2,8 @@
 use borrow.Author.Needs.{needs}
 use mathlib.Core.Path.{_≡_, sym, ap, _∙_}
 use Rattle.wire.specs.Sum.{sumOf}
-use Rattle.contents.specs.Kinds.{kindOf, isTable}
-use Rattle.contents.specs.Entries.{kindAt, sumAt, bodyAt}
+use Rattle.entries.specs.Kinds.{kindOf, isTable}
+use Rattle.entries.specs.Entries.{kindAt, sumAt, bodyAt}
 use Rattle.bodies.specs.Refusal.{bodyRefusal}
 use Rattle.taskfile.proofs.Steps.{part-sum, part-table, part-note}
 use Rattle.taskfile.proofs.part_refusal.Statement.{statement}

@@ -4,7 +4,7 @@ use Prim.Native.Nat.{ℕ, _-_, _≤_, _<_}
 use native.Mathlib.Omega.{arith}
 use borrow.Author.Count.{below-none, below-more}
 use Rattle.table.specs.declared.Refusal.{Refusal}
-use Rattle.contents.proofs.Refusals.{turn-fine, turn-here}
+use Rattle.table.proofs.Refusals.{turn-fine, turn-here}
 use Rattle.taskfile.specs.Check.{inEntry, partRefusal}
 use Rattle.taskfile.proofs.parts_refusal.Statement.{statement}
 use Rattle.taskfile.proofs.parts_refusal.Tie as tie

@@ -2,8 +2,8 @@
 use borrow.Author.Needs.{needs}
 use mathlib.Core.Path.{_≡_, ap, _∙_}
 use native.Mathlib.Omega.{arith}
-use Rattle.contents.specs.Kinds.{kindOf, isTable}
-use Rattle.contents.specs.Entries.{kindAt, seekIn}
+use Rattle.entries.specs.Kinds.{kindOf, isTable}
+use Rattle.entries.specs.Entries.{kindAt, seekIn}
 use Rattle.taskfile.specs.Find.{seekOf}
 use Rattle.taskfile.proofs.Steps.{none-has, entry-has}
 use Rattle.taskfile.proofs.table_has.Statement.{statement}

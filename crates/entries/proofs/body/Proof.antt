@@ -1,9 +1,9 @@
 -- Cut off where the file ends.
 use borrow.Author.Needs.{needs}
-use Rattle.contents.proofs.Parts.{cut}
-use Rattle.contents.specs.Entries.{bodyAt}
-use Rattle.contents.proofs.entries.body.Statement.{statement}
-use Rattle.contents.proofs.entries.body.Tie as tie
+use Rattle.entries.proofs.Parts.{cut}
+use Rattle.entries.specs.Entries.{bodyAt}
+use Rattle.entries.proofs.body.Statement.{statement}
+use Rattle.entries.proofs.body.Tie as tie
 
 start-at-requires : tie.Need-start-at-requires
 start-at-requires c κs = search needs

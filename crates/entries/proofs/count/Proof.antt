@@ -1,8 +1,8 @@
 -- The two bytes at their place.
 use borrow.Author.Needs.{needs}
-use Rattle.contents.specs.Entries.{countOf}
-use Rattle.contents.proofs.entries.count.Statement.{statement}
-use Rattle.contents.proofs.entries.count.Tie as tie
+use Rattle.entries.specs.Entries.{countOf}
+use Rattle.entries.proofs.count.Statement.{statement}
+use Rattle.entries.proofs.count.Tie as tie
 
 le16-requires : tie.Need-le16-requires
 le16-requires c κs = search needs

@@ -6,12 +6,10 @@ use Prim.Native.Nat.{ℕ, zero, suc, _≤_, _<_}
 use native.Mathlib.Nat.{eq-or-lt-of-le}
 use native.Mathlib.Omega.{arith}
 use lib.Dec.{leb, ltb, eqb}
-use borrow.Author.Tests.{eq-eqb, ne-eqb, lt-ltb, le-ltb, le-leb, lt-leb}
+use borrow.Author.Tests.{eq-eqb, ne-eqb, eqb-true, eqb-false, lt-ltb, le-ltb, le-leb, lt-leb}
 use Rattle.table.specs.declared.Refusal.{Refusal}
 use Rattle.table.specs.Check.{none}
-use Rattle.table.specs.First.{first}
-use Rattle.table.proofs.First.{first-next, first-here, first-fine}
-use Rattle.contents.specs.Refusals.{when, unless, inTurn}
+use Rattle.table.specs.Refusals.{when, unless, first, inTurn}
 
 -- by what a test says
 module _ {A : Type 0} (a next z : A) where
@@ -75,6 +73,24 @@ module _ {A : Type 0} (f : A → ℕ) (t : Bool) (a next : A) (z : ℕ) where
       go : (t : Bool) → f (cond t next a) ≡ z → (f a ≡ z → ⊥) → (t ≡ true) × (f next ≡ z)
       go true e n = (refl, e)
       go false e n = absurd (n e)
+
+-- the first of two refusals
+module _ (r next : Refusal) where
+  pub first-next : r .no ≡ 0 → next ≡ first r next
+  unfolding first
+  first-next e = rw (eq-eqb (r .no) 0 e)
+
+  pub first-here : (r .no ≡ 0 → ⊥) → r ≡ first r next
+  unfolding first
+  first-here n = rw (ne-eqb (r .no) 0 n)
+
+  pub first-fine : first r next .no ≡ 0 → (r .no ≡ 0) × (next .no ≡ 0)
+  unfolding first
+  first-fine = go (eqb (r .no) 0) refl
+    where
+      go : (t : Bool) → eqb (r .no) 0 ≡ t → cond t next r .no ≡ 0 → (r .no ≡ 0) × (next .no ≡ 0)
+      go true h e = (eqb-true _ _ h, e)
+      go false h e = absurd (eqb-false _ _ h e)
 
 -- the entries in turn
 module _ (f : ℕ → Refusal) where

@@ -1,8 +1,8 @@
 -- The two bytes at their place in the twelve of the entry.
 use borrow.Author.Needs.{needs}
-use Rattle.contents.specs.Entries.{lengthAt}
-use Rattle.contents.proofs.entries.length_at.Statement.{statement}
-use Rattle.contents.proofs.entries.length_at.Tie as tie
+use Rattle.entries.specs.Entries.{lengthAt}
+use Rattle.entries.proofs.length_at.Statement.{statement}
+use Rattle.entries.proofs.length_at.Tie as tie
 
 head-requires : tie.Need-head-requires
 head-requires c κs = search needs

@@ -7,7 +7,7 @@ use native.Mathlib.Omega.{arith}
 use mathlib.Core.List.{List}
 use lib.ListN.{length, take, drop, length-drop, drop-of-length-le}
 use lib.Seq.{take-all, take-nil}
-use Rattle.contents.specs.Entries.{countOf, lengthAt, placeOf}
+use Rattle.entries.specs.Entries.{countOf, lengthAt, placeOf}
 
 -- a part of a list, cut off where the list ends
 pub cut : (s : List ℕ) (a l : ℕ) → take (min (a + l) (length s) - min a (length s)) (drop (min a (length s)) s) ≡ take l (drop a s)

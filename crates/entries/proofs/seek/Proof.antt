@@ -7,9 +7,9 @@ use lib.Dec.{eqb}
 use borrow.Author.Count.{below-none, below-more}
 use borrow.Author.Tests.{eq-eqb, ne-eqb}
 use Rattle.table.proofs.Least.{least-found, least-none}
-use Rattle.contents.specs.Entries.{numberAt, seekIn}
-use Rattle.contents.proofs.entries.seek.Statement.{statement}
-use Rattle.contents.proofs.entries.seek.Tie as tie
+use Rattle.entries.specs.Entries.{numberAt, seekIn}
+use Rattle.entries.proofs.seek.Statement.{statement}
+use Rattle.entries.proofs.seek.Tie as tie
 
 abbrev Inv-loop : tie.InvT-loop
 Inv-loop s number n i₀ i = (i ≤ n) × ((k : ℕ) → k < i → eqb (numberAt s k) number ≡ false)

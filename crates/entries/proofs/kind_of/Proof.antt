@@ -1,8 +1,8 @@
 -- Each arm computes the definition with the tests that led there.
-use Rattle.contents.proofs.Refusals.{tests}
-use Rattle.contents.specs.Kinds.{kindOf}
-use Rattle.contents.proofs.kind_of.Statement.{statement}
-use Rattle.contents.proofs.kind_of.Tie as tie
+use Rattle.table.proofs.Refusals.{tests}
+use Rattle.entries.specs.Kinds.{kindOf}
+use Rattle.entries.proofs.kind_of.Statement.{statement}
+use Rattle.entries.proofs.kind_of.Tie as tie
 
 returns : tie.Need-returns
 unfolding kindOf

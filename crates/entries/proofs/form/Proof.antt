@@ -1,8 +1,8 @@
 -- The two bytes at their place.
 use borrow.Author.Needs.{needs}
-use Rattle.contents.specs.Entries.{formOf}
-use Rattle.contents.proofs.entries.form.Statement.{statement}
-use Rattle.contents.proofs.entries.form.Tie as tie
+use Rattle.entries.specs.Entries.{formOf}
+use Rattle.entries.proofs.form.Statement.{statement}
+use Rattle.entries.proofs.form.Tie as tie
 
 le16-requires : tie.Need-le16-requires
 le16-requires c κs = search needs

@@ -2,9 +2,9 @@
 use mathlib.Core.Bool.{Bool, true, false}
 use Prim.Native.Nat.{ℕ}
 use lib.Dec.{ltb, eqb}
-use Rattle.contents.specs.declared.Kind.{Kind}
-use Rattle.contents.specs.declared.Kind.the-variants.{Table, Note, Refused}
-use Rattle.contents.specs.Refusals.{when}
+use Rattle.entries.specs.declared.Kind.{Kind}
+use Rattle.entries.specs.declared.Kind.the-variants.{Table, Note, Refused}
+use Rattle.table.specs.Refusals.{when}
 
 unfoldable pub kindOf : ℕ → Kind
 kindOf k = when (eqb k 1) Table (when (ltb k 128) Refused (when (ltb k 256) Note Refused))

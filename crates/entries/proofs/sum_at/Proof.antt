@@ -1,9 +1,9 @@
 -- The two numbers at their places, joined.
 use borrow.Author.Needs.{needs}
 use Rattle.wire.specs.Number.{at32}
-use Rattle.contents.specs.Entries.{sumAt}
-use Rattle.contents.proofs.entries.sum_at.Statement.{statement}
-use Rattle.contents.proofs.entries.sum_at.Tie as tie
+use Rattle.entries.specs.Entries.{sumAt}
+use Rattle.entries.proofs.sum_at.Statement.{statement}
+use Rattle.entries.proofs.sum_at.Tie as tie
 
 head-requires : tie.Need-head-requires
 head-requires c κs = search needs

@@ -1,0 +1,2 @@
+-- The laws of the parts of an entry.
+pub mod Parts
