@@ -19,9 +19,9 @@ use Rattle.sets.proofs.Words.{word-ext, word-none, ones-word, member-word, put-
 use Rattle.lists.specs.Over.{Over, Holds, Same}
 use Rattle.lists.proofs.Overs.{over-ext, over-then}
 use Rattle.deepen.specs.Step.{words, Shrinking, Step}
-use Rattle.deepen.specs.First.{inSlot}
-use Rattle.deepen.specs.Passes.{rowPin, rowMap, RowDone}
-use Rattle.deepen.proofs.Tally.{and-true, and-false}
+use Rattle.jobs.specs.First.{inSlot}
+use Rattle.jobs.specs.Passes.{rowPin, rowMap, RowDone}
+use Rattle.jobs.proofs.Tally.{and-true, and-false}
 use Rattle.deepen.proofs.Pinned.{roomy, row-pinned, row-next}
 use Rattle.deepen.proofs.Mix.{mix, mix-none, mix-all, mix-here, mix-put}
 

@@ -14,9 +14,9 @@ use Rattle.model.specs.Pins.{size, pin, pins, pinned}
 use Rattle.model.specs.Depths.{full, next}
 use Rattle.model.proofs.Bools.{clash, lt-or-ge}
 use Rattle.model.proofs.Stop.{frame-room}
-use Rattle.deepen.specs.First.{tally, first}
-use Rattle.deepen.specs.Passes.{rowPin, rowMap}
-use Rattle.deepen.proofs.Tally.{tally-zero, tally-suc, tally-ext, first-ext}
+use Rattle.jobs.specs.First.{tally, first}
+use Rattle.jobs.specs.Passes.{rowPin, rowMap}
+use Rattle.jobs.proofs.Tally.{tally-zero, tally-suc, tally-ext, first-ext}
 
 -- available, in a slot with room
 unfoldable pub roomy : Model → Map → Map

@@ -1,4 +1,2 @@
--- What one depth further is, and what its passes do to the words of the two lists.
+-- What one depth further is.
 pub mod Step
-pub mod First
-pub mod Passes

@@ -11,8 +11,6 @@ ghost use Rattle.firstmap.specs.Framed.{Framed};
 ghost use Rattle.deepen.specs.Step.{words, Deepened, Reached};
 use table::Table;
 
-mod jobs;
-
 // The sets of the slots in which no more than m rows are available, and no row in the others.
 fn room(map: &[u32], pins: &mut [u32], h: usize, m: u32)
     requires { ⌜ (h ≤ length (now map)) × (h ≤ length (now pins)) ⌝ }

@@ -10,7 +10,7 @@ use lib.Seq.{getD-set-same, getD-set-other}
 use borrow.Author.Tests.{eqb-true, eqb-false}
 use Rattle.lists.specs.Over.{Over}
 use Rattle.lists.proofs.Overs.{same-set}
-use Rattle.deepen.specs.Passes.{Told}
+use Rattle.jobs.specs.Passes.{Told}
 
 pub told-none : (a : ℕ) (l : List ℕ) → Told a a l l false
 told-none a l = record { still = λ e. record { at = λ s. refl }; moved = λ e. absurd (false≢true e) }

@@ -4,11 +4,11 @@ use Prim.Native.Nat.{_+_, _-_, _%_, _≤_}
 use native.Mathlib.Nat.{add-mod-right, zero-mod}
 use native.Mathlib.Omega.{arith}
 use Rattle.lists.proofs.Overs.{over-none}
-use Rattle.deepen.specs.Passes.{RowDone}
-use Rattle.deepen.proofs.Told.{told-none}
-use Rattle.deepen.proofs.Row.{release-room, row-step}
-use Rattle.deepen.proofs.jobs.row_pass.Statement.{statement}
-use Rattle.deepen.proofs.jobs.row_pass.Tie as tie
+use Rattle.jobs.specs.Passes.{RowDone}
+use Rattle.jobs.proofs.Told.{told-none}
+use Rattle.jobs.proofs.Row.{release-room, row-step}
+use Rattle.jobs.proofs.row_pass.Statement.{statement}
+use Rattle.jobs.proofs.row_pass.Tie as tie
 
 abbrev Inv-loop : tie.InvT-loop
 Inv-loop map₀ pins₀ i period execution deadline h changed₀ from₀ map pins changed from =

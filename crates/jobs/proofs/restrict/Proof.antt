@@ -6,11 +6,11 @@ use lib.ListN.{getD}
 use Rattle.sets.specs.Word.{member, put}
 use Rattle.lists.specs.Over.{Over}
 use Rattle.lists.proofs.Overs.{over-none, over-more}
-use Rattle.deepen.specs.First.{inSlot}
-use Rattle.deepen.specs.Passes.{putting, Told}
-use Rattle.deepen.proofs.Told.{told-none, told-more}
-use Rattle.deepen.proofs.jobs.restrict.Statement.{statement}
-use Rattle.deepen.proofs.jobs.restrict.Tie as tie
+use Rattle.jobs.specs.First.{inSlot}
+use Rattle.jobs.specs.Passes.{putting, Told}
+use Rattle.jobs.proofs.Told.{told-none, told-more}
+use Rattle.jobs.proofs.restrict.Statement.{statement}
+use Rattle.jobs.proofs.restrict.Tie as tie
 
 abbrev Inv-loop : tie.InvT-loop
 Inv-loop map₀ pins i from to changed₀ s₀ map changed s = (s ≤ to) × (from ≤ s) × Over (putting i (inSlot i pins) map₀) from s map₀ map × Told from s map₀ map changed

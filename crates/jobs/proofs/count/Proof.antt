@@ -2,10 +2,10 @@
 use mathlib.Core.Path.{_≡_, sym, ap₂, _∙_}
 use Prim.Native.Nat.{_+_, _-_, _≤_}
 use native.Mathlib.Omega.{arith}
-use Rattle.deepen.specs.First.{inSlot, tally}
-use Rattle.deepen.proofs.Tally.{bit-small, tally-zero, tally-more}
-use Rattle.deepen.proofs.jobs.count.Statement.{statement}
-use Rattle.deepen.proofs.jobs.count.Tie as tie
+use Rattle.jobs.specs.First.{inSlot, tally}
+use Rattle.jobs.proofs.Tally.{bit-small, tally-zero, tally-more}
+use Rattle.jobs.proofs.count.Statement.{statement}
+use Rattle.jobs.proofs.count.Tie as tie
 
 abbrev Inv-loop : tie.InvT-loop
 Inv-loop pins i from len total₀ o₀ total o = (o ≤ len) × (total ≤ o) × (total ≡ tally (inSlot i pins) from o)

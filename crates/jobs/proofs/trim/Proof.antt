@@ -8,12 +8,12 @@ use Rattle.model.specs.Sum.{bit}
 use Rattle.sets.specs.Word.{member, put}
 use Rattle.lists.specs.Over.{Over}
 use Rattle.lists.proofs.Overs.{over-none}
-use Rattle.deepen.specs.First.{inSlot, tally}
-use Rattle.deepen.specs.Passes.{putting}
-use Rattle.deepen.proofs.Tally.{bit-small, tally-le, tally-last}
-use Rattle.deepen.proofs.Trim.{over-before, trimmed}
-use Rattle.deepen.proofs.jobs.trim.Statement.{statement}
-use Rattle.deepen.proofs.jobs.trim.Tie as tie
+use Rattle.jobs.specs.First.{inSlot, tally}
+use Rattle.jobs.specs.Passes.{putting}
+use Rattle.jobs.proofs.Tally.{bit-small, tally-le, tally-last}
+use Rattle.jobs.proofs.Trimmed.{over-before, trimmed}
+use Rattle.jobs.proofs.trim.Statement.{statement}
+use Rattle.jobs.proofs.trim.Tie as tie
 
 abbrev Inv-loop : tie.InvT-loop
 Inv-loop pins₀ i from len c total left₀ o₀ pins left o = (o ≤ len) × (c ≤ left) × (left ≤ o) × (left ≡ tally (inSlot i pins₀) from o) × Over (putting i (λ s. false) pins₀) (from + o) (from + len) pins₀ pins

@@ -1,9 +1,9 @@
 -- A job with too few slots stays as it is; one with enough keeps the first c in both lists.
 use mathlib.Core.Path.{refl}
 use native.Mathlib.Omega.{arith}
-use Rattle.deepen.proofs.Job.{job-open, job-full}
-use Rattle.deepen.proofs.jobs.job.Statement.{statement}
-use Rattle.deepen.proofs.jobs.job.Tie as tie
+use Rattle.jobs.proofs.Done.{job-open, job-full}
+use Rattle.jobs.proofs.job.Statement.{statement}
+use Rattle.jobs.proofs.job.Tie as tie
 
 count-requires : tie.Need-count-requires
 count-requires c κs = c .before .before .before .pre .1

@@ -1,7 +1,7 @@
 -- Each branch is one answer of the test.
 use borrow.Author.Tests.{eq-eqb, ne-eqb}
-use Rattle.deepen.proofs.jobs.changed_by.Statement.{statement}
-use Rattle.deepen.proofs.jobs.changed_by.Tie as tie
+use Rattle.jobs.proofs.changed_by.Statement.{statement}
+use Rattle.jobs.proofs.changed_by.Tie as tie
 
 returns : tie.Need-returns
 returns c = rw (eq-eqb _ _ (c .if1 .taken))

@@ -5,8 +5,8 @@ ghost use Prim.Native.Nat.{_+_, _%_, _≤_, _<_};
 ghost use lib.Dec.{eqb};
 ghost use lib.ListN.{length};
 ghost use Rattle.lists.specs.Over.{Over};
-ghost use Rattle.deepen.specs.First.{inSlot, tally, first};
-ghost use Rattle.deepen.specs.Passes.{putting, Told, JobDone, RowDone};
+ghost use Rattle.jobs.specs.First.{inSlot, tally, first};
+ghost use Rattle.jobs.specs.Passes.{putting, Told, JobDone, RowDone};
 
 // How many of the len slots from `from` have row i.
 fn count(pins: &[u32], i: usize, from: usize, len: usize) -> usize

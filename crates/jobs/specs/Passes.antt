@@ -7,7 +7,7 @@ use lib.Dec.{leb, ltb}
 use lib.ListN.{getD}
 use Rattle.sets.specs.Word.{put}
 use Rattle.lists.specs.Over.{Over, Same}
-use Rattle.deepen.specs.First.{inSlot, tally, first}
+use Rattle.jobs.specs.First.{inSlot, tally, first}
 
 -- the sets of a list, with row i in that of slot s if f says so and not in it otherwise
 abbrev pub putting : ℕ → (ℕ → Bool) → List ℕ → ℕ → ℕ

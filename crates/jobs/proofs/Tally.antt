@@ -11,7 +11,7 @@ use borrow.Author.Tests.{lt-ltb, le-ltb}
 use Rattle.model.specs.Sum.{sum, bit}
 use Rattle.model.proofs.Sums.{sum-eq, sum-longer}
 use Rattle.model.proofs.Bools.{lt-or-ge}
-use Rattle.deepen.specs.First.{tally, first}
+use Rattle.jobs.specs.First.{tally, first}
 
 pub bit-le : (b : Bool) → bit b ≤ 1
 bit-le true = omega arith

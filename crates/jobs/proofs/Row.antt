@@ -12,10 +12,10 @@ use Rattle.model.proofs.Stop.{frame-room}
 use Rattle.sets.specs.Word.{member, put}
 use Rattle.sets.proofs.Words.{put-same}
 use Rattle.lists.proofs.Overs.{over-on, over-join}
-use Rattle.deepen.specs.First.{inSlot, first}
-use Rattle.deepen.specs.Passes.{jobMap, rowPin, rowMap, JobDone, RowDone}
-use Rattle.deepen.proofs.Tally.{tally-ext, first-ext}
-use Rattle.deepen.proofs.Told.{told-on, told-join}
+use Rattle.jobs.specs.First.{inSlot, first}
+use Rattle.jobs.specs.Passes.{jobMap, rowPin, rowMap, JobDone, RowDone}
+use Rattle.jobs.proofs.Tally.{tally-ext, first-ext}
+use Rattle.jobs.proofs.Told.{told-on, told-join}
 
 starts : (t s : ℕ) → s % t ≡ 0 → s / t * t ≡ s
 starts t s e = omega (arith, div-add-mod' s t)

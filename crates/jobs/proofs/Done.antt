@@ -10,10 +10,10 @@ use Rattle.sets.specs.Word.{member, put}
 use Rattle.sets.proofs.Words.{put-same, member-put}
 use Rattle.lists.specs.Over.{Over}
 use Rattle.lists.proofs.Overs.{over-none, over-on, over-ext}
-use Rattle.deepen.specs.First.{inSlot, tally, first}
-use Rattle.deepen.specs.Passes.{putting, jobMap, Told, JobDone}
-use Rattle.deepen.proofs.Tally.{first-few}
-use Rattle.deepen.proofs.Told.{told-none, told-on}
+use Rattle.jobs.specs.First.{inSlot, tally, first}
+use Rattle.jobs.specs.Passes.{putting, jobMap, Told, JobDone}
+use Rattle.jobs.proofs.Tally.{first-few}
+use Rattle.jobs.proofs.Told.{told-none, told-on}
 
 module _ (i c from len : ℕ) (P A : List ℕ) where
   -- fewer than c slots: both lists stay

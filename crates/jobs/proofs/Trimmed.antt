@@ -12,9 +12,9 @@ use Rattle.sets.specs.Word.{put}
 use Rattle.sets.proofs.Words.{put-same}
 use Rattle.lists.specs.Over.{Over}
 use Rattle.lists.proofs.Overs.{over-none, over-on, over-join}
-use Rattle.deepen.specs.First.{inSlot, tally, first}
-use Rattle.deepen.specs.Passes.{putting}
-use Rattle.deepen.proofs.Tally.{first-low, first-high}
+use Rattle.jobs.specs.First.{inSlot, tally, first}
+use Rattle.jobs.specs.Passes.{putting}
+use Rattle.jobs.proofs.Tally.{first-low, first-high}
 
 -- a store into the slot before the range
 pub over-before : {f : ℕ → ℕ} {a n b v : ℕ} {old new : List ℕ} → Over f n b old new → n ≡ suc a → a < length old → a < b → v ≡ f a → Over f a b old (set new a v)

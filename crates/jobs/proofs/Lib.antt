@@ -1,0 +1,6 @@
+-- Why the passes over a job and over a row leave what they promise.
+pub mod Tally
+pub mod Told
+pub mod Trimmed
+pub mod Done
+pub mod Row
