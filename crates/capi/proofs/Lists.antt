@@ -10,8 +10,8 @@ use borrow.Author.Tests.{le-leb, lt-leb}
 use Rattle.table.specs.declared.Row.{Row}
 use Rattle.table.specs.Check.{checkRows}
 use Rattle.rowlist.specs.List.{checkList}
-use Rattle.capi.specs.Lent.{rowsOf}
-use Rattle.capi.proofs.Reading.{length-rows, take-rows}
+use Rattle.plain.specs.Lent.{rowsOf}
+use Rattle.plain.proofs.Reading.{length-rows, take-rows}
 
 module _ (m x : ℕ) where
   too-many : (a b : List Row) → 32 < length a → 32 < length b → checkList m x a ≡ checkList m x b

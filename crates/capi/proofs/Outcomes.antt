@@ -11,8 +11,8 @@ use Rattle.edit.specs.declared.Edited.{Edited}
 use Rattle.taskfile.specs.declared.Found.{Found}
 use Rattle.fileput.specs.declared.Written.{Written}
 use Rattle.fileput.specs.Put.{Puts}
-use Rattle.capi.specs.Lent.{numbersOf}
-use Rattle.capi.specs.Answers.{refusalAnswer, judgeAnswer, linesAnswer, putAnswer}
+use Rattle.plain.specs.Lent.{numbersOf}
+use Rattle.plain.specs.Answers.{refusalAnswer, judgeAnswer, linesAnswer, putAnswer}
 use Rattle.capi.specs.Outcomes.{Judges, Ladders, Edits, Finds, Writes}
 
 pub judges : {t u : Table} {map pins map′ pins′ answer : List ℕ} {v : Verdict}

@@ -1,4 +1,2 @@
--- What the C functions are lent and what they give, in plain numbers.
-pub mod Lent
-pub mod Answers
+-- What the C functions give and leave.
 pub mod Outcomes

@@ -11,8 +11,8 @@ use Rattle.ladder.specs.Ladder.{ladderOf}
 use Rattle.edit.specs.declared.Edited.{Edited}
 use Rattle.taskfile.specs.declared.Found.{Found}
 use Rattle.fileput.specs.Put.{putOf, putOut}
-use Rattle.capi.specs.Lent.{numbersOf}
-use Rattle.capi.specs.Answers.{refusalAnswer, judgeAnswer, linesAnswer, putAnswer}
+use Rattle.plain.specs.Lent.{numbersOf}
+use Rattle.plain.specs.Answers.{refusalAnswer, judgeAnswer, linesAnswer, putAnswer}
 
 -- the judge: its numbers, and both lists as it leaves them
 pub record Judges (t : Table) (map pins map′ pins′ answer : List ℕ) : Type 0 where

@@ -1,9 +1,9 @@
 // Adding and removing a row for C.
 ghost use Rattle.edit.specs.Edit.{addOf, removeOf};
-ghost use Rattle.capi.specs.Lent.{rowGiven, tableOf};
+ghost use Rattle.plain.specs.Lent.{rowGiven, tableOf};
 ghost use Rattle.capi.specs.Outcomes.{Edits};
-use crate::answers;
-use crate::lent;
+use plain::answers;
+use plain::lent;
 use table::Row;
 
 // Puts the row T, C, D at the end of a table: the table that comes back, and no, entry, row.

@@ -2,11 +2,11 @@
 ghost use mathlib.Core.Path.{_≡_};
 ghost use Rattle.taskfile.specs.Check.{checkFile};
 ghost use Rattle.taskfile.specs.Find.{findOf};
-ghost use Rattle.capi.specs.Lent.{tableOf};
-ghost use Rattle.capi.specs.Answers.{fileAnswer};
+ghost use Rattle.plain.specs.Lent.{tableOf};
+ghost use Rattle.plain.specs.Answers.{fileAnswer};
 ghost use Rattle.capi.specs.Outcomes.{Finds, Writes};
-use crate::answers;
-use crate::lent;
+use plain::answers;
+use plain::lent;
 
 // The check of a file: no, entry, row, entries.
 #[no_mangle]

@@ -2,11 +2,11 @@
 ghost use mathlib.Core.Path.{_≡_};
 ghost use Rattle.table.specs.Check.{checkOf};
 ghost use Rattle.rowlist.specs.List.{checkList};
-ghost use Rattle.capi.specs.Lent.{tableOf, listOf};
-ghost use Rattle.capi.specs.Answers.{checkAnswer};
+ghost use Rattle.plain.specs.Lent.{tableOf, listOf};
+ghost use Rattle.plain.specs.Answers.{checkAnswer};
 ghost use Rattle.capi.specs.Outcomes.{Judges, Ladders};
-use crate::answers;
-use crate::lent;
+use plain::answers;
+use plain::lent;
 
 // The check of a table: no, entry, row, frame.
 #[no_mangle]

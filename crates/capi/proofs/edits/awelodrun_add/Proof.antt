@@ -2,7 +2,7 @@
 use mathlib.Core.Path.{ap, _∙_}
 use Rattle.table.specs.declared.Table.{Table}
 use Rattle.edit.specs.Edit.{addOf}
-use Rattle.capi.specs.Lent.{rowGiven}
+use Rattle.plain.specs.Lent.{rowGiven}
 use Rattle.capi.proofs.Outcomes.{edits}
 use borrow.Author.Needs.{needs}
 use Rattle.capi.proofs.edits.awelodrun_add.Statement.{statement}

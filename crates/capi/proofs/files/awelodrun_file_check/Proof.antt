@@ -1,6 +1,6 @@
 -- The numbers of the check of the file.
 use mathlib.Core.Path.{ap, _∙_}
-use Rattle.capi.specs.Answers.{fileAnswer}
+use Rattle.plain.specs.Answers.{fileAnswer}
 use borrow.Author.Needs.{needs}
 use Rattle.capi.proofs.files.awelodrun_file_check.Statement.{statement}
 use Rattle.capi.proofs.files.awelodrun_file_check.Tie as tie

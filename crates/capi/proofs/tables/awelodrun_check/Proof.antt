@@ -1,7 +1,7 @@
 -- The numbers of the check of the table that is read.
 use mathlib.Core.Path.{ap, _∙_}
 use Rattle.table.specs.Check.{checkOf}
-use Rattle.capi.specs.Answers.{checkAnswer}
+use Rattle.plain.specs.Answers.{checkAnswer}
 use borrow.Author.Needs.{needs}
 use Rattle.capi.proofs.tables.awelodrun_check.Statement.{statement}
 use Rattle.capi.proofs.tables.awelodrun_check.Tie as tie

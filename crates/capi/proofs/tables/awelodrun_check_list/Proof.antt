@@ -6,8 +6,8 @@ use lib.ListN.{take}
 use borrow.Author.Needs.{needs}
 use Rattle.table.specs.declared.Row.{Row}
 use Rattle.rowlist.specs.List.{checkList}
-use Rattle.capi.specs.Lent.{rowsOf}
-use Rattle.capi.specs.Answers.{checkAnswer}
+use Rattle.plain.specs.Lent.{rowsOf}
+use Rattle.plain.specs.Answers.{checkAnswer}
 use Rattle.capi.proofs.Lists.{first-rows}
 use Rattle.capi.proofs.tables.awelodrun_check_list.Statement.{statement}
 use Rattle.capi.proofs.tables.awelodrun_check_list.Tie as tie

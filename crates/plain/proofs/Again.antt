@@ -1,0 +1,31 @@
+-- A table that is given back can be lent again as it stands: its numbers are those of the same table.
+use mathlib.Core.Path.{_≡_, refl, sym, ap₂, _∙_}
+use mathlib.Core.List.{List, [], _∷_, _++_}
+use Prim.Native.Nat.{ℕ, zero, suc, _≤_, _<_}
+use native.Mathlib.Omega.{arith}
+use lib.ListN.{length, getD, take, drop}
+use lib.Seq.{take-all, take-suc}
+use Rattle.table.specs.declared.Row.{Row}
+use Rattle.table.specs.declared.Table.{Table}
+use Rattle.table.specs.Rows.{noRow}
+use Rattle.plain.specs.Lent.{rowOf, rowsOf, tableOf, threes, numbersOf}
+use Rattle.plain.proofs.Table.{T, C, D}
+use Rattle.plain.proofs.Threes.{first-at, second-at, third-at}
+
+row-again : (l : List Row) (i : ℕ) → i < length l → rowOf (threes T C D l) i ≡ getD l i noRow
+unfolding rowOf
+row-again l i h =
+    rw (first-at T C D noRow l i h, second-at T C D noRow l i h, third-at T C D noRow l i h)
+
+rows-again : (l : List Row) (k : ℕ) → k ≤ length l → rowsOf (threes T C D l) k ≡ take k l
+unfolding rowsOf
+rows-again l zero h = refl
+rows-again l (suc k) h =
+    ap₂ (λ (a : List Row) (r : Row). a ++ (r ∷ [])) (rows-again l k (omega arith)) (row-again l k h)
+    ∙ sym (take-suc l k noRow h)
+
+pub lent-again : (t : Table) → length (t .rows) ≡ 32 → tableOf (t .processors) (t .depth) (t .count) (drop 3 (numbersOf t)) ≡ t
+unfolding tableOf numbersOf
+lent-again t full =
+    let e : rowsOf (threes T C D (t .rows)) 32 ≡ t .rows = rows-again (t .rows) 32 (omega arith) ∙ take-all 32 (t .rows) (omega arith) in
+    rw e

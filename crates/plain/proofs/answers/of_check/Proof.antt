@@ -1,0 +1,27 @@
+-- Each case gives the numbers of that case.
+use mathlib.Core.Path.{sym, ap, _∙_}
+use Rattle.table.specs.declared.Checked.{Checked}
+use Rattle.table.specs.Check.{numbers}
+use Rattle.plain.specs.Answers.{checkAnswer}
+use borrow.Author.Needs.{needs}
+use Rattle.plain.proofs.answers.of_check.Statement.{statement}
+use Rattle.plain.proofs.answers.of_check.Tie as tie
+
+enum-known-c : tie.Need-enum-known-c
+enum-known-c c = search needs
+
+enum-known-c-2 : tie.Need-enum-known-c-2
+enum-known-c-2 c = search needs
+
+refusal-and-requires : tie.Need-refusal-and-requires
+refusal-and-requires c κs = search needs
+
+returns : tie.Need-returns
+returns c = ap (λ (a : Checked). checkAnswer (numbers a)) (sym (c .before .c .given .1))
+
+returns-2 : tie.Need-returns-2
+returns-2 c = c .refusal-and .ensures ∙ ap (λ (a : Checked). checkAnswer (numbers a)) (sym (c .before .before .c2 .given .1))
+
+pub of-check-spec : {M : Type 1} → statement M
+of-check-spec =
+    tie.close (tie.spec enum-known-c enum-known-c-2 refusal-and-requires returns returns-2)

@@ -1,0 +1,3 @@
+-- What tables and answers are in plain numbers.
+pub mod Lent
+pub mod Answers
