@@ -18,7 +18,8 @@ use Rattle.bodies.proofs.Writing.{length-table}
 use Rattle.taskfile.specs.Find.{seekOf}
 use Rattle.fileput.specs.declared.Written.{Written}
 use Rattle.fileput.specs.Put.{newEntries, newFile, putRefusal, putOf, putOut, Puts}
-use Rattle.fileput.specs.Writing.{run, newAt, newCount, earlyRefusal, lengthRefusal, writtenOf, writtenOver, Writes}
+use Rattle.filewrite.specs.Runs.{run, newAt}
+use Rattle.fileput.specs.Writing.{newCount, earlyRefusal, lengthRefusal, writtenOf, writtenOver, Writes}
 use Rattle.fileput.proofs.Entered.{entered}
 use Rattle.fileput.proofs.Steps.{put-early, put-late, length-is-fine}
 

@@ -18,8 +18,9 @@ use Rattle.contents.specs.File.{Entry, entryAt, entriesFrom, entriesOf}
 use Rattle.bodies.specs.Body.{tableBytes}
 use Rattle.taskfile.specs.Find.{seekOf}
 use Rattle.fileput.specs.Put.{putEntry, newEntries}
-use Rattle.fileput.specs.Writing.{run, newAt, newCount}
-use Rattle.fileput.proofs.Runs.{length-run}
+use Rattle.filewrite.specs.Runs.{run, newAt}
+use Rattle.fileput.specs.Writing.{newCount}
+use Rattle.filewrite.proofs.Runs.{length-run}
 
 -- entries from entry k on
 from : (ℕ → Entry) → ℕ → ℕ → List Entry

@@ -1,6 +1,4 @@
 -- The laws of putting a table into a file: what is written, by which steps, and with which answers.
-pub mod Runs
-pub mod Turns
 pub mod Entered
 pub mod Steps
 pub mod Answers

@@ -4,12 +4,11 @@ ghost use Prim.Native.Nat.{_+_, _*_, _≤_};
 ghost use lib.ListN.{length};
 ghost use Rattle.contents.specs.File.{encode};
 ghost use Rattle.fileput.specs.Put.{noteHas, Puts};
-ghost use Rattle.fileput.specs.Writing.{run, newBody, newAt, fileLength, newCount, earlyRefusal, lengthRefusal, Writes};
+ghost use Rattle.filewrite.specs.Runs.{run, newBody, newAt, fileLength};
+ghost use Rattle.fileput.specs.Writing.{newCount, earlyRefusal, lengthRefusal, Writes};
 use entries;
 use table::Refusal;
 use table::Table;
-
-mod writing;
 
 // What put answers: the length of the file that it wrote, or a refusal and 0.
 pub struct Written {
@@ -83,7 +82,7 @@ fn new_length<'a>(s: &'a [u8], i: u16, b: &'a [u8], n: u16) -> usize
     let mut len = 4 + 12 * wire::size(n);
     let mut j: u16 = 0;
     while j < n {
-        let p = writing::new_body(s, i, b, j);
+        let p = filewrite::new_body(s, i, b, j);
         len = len + p.len();
         j += 1;
     }
@@ -103,7 +102,7 @@ fn write<'a>(out: &mut [u8], s: &'a [u8], i: u16, number: u16, b: &'a [u8], n: u
             length: 0,
         };
     }
-    writing::write_file(out, s, i, number, b, n);
+    filewrite::write_file(out, s, i, number, b, n);
     Written {
         refusal: late,
         length: len as u32,

@@ -3,8 +3,8 @@ use mathlib.Core.Path.{_≡_, ap, _∙_}
 use Prim.Native.Nat.{ℕ, _+_, _*_, _-_, _≤_}
 use native.Mathlib.Omega.{arith}
 use lib.ListN.{length}
-use Rattle.fileput.specs.Writing.{newBody, bodyRun}
-use Rattle.fileput.proofs.Turns.{body-short, turn-first, turn-next}
+use Rattle.filewrite.specs.Runs.{newBody, bodyRun}
+use Rattle.filewrite.proofs.Turns.{body-short, turn-first, turn-next}
 use Rattle.fileput.proofs.new_length.Statement.{statement}
 use Rattle.fileput.proofs.new_length.Tie as tie
 

@@ -7,8 +7,9 @@ use mathlib.Core.List.{List}
 use lib.ListN.{length}
 use Rattle.table.specs.declared.Refusal.{Refusal}
 use Rattle.contents.specs.File.{encode}
-use Rattle.fileput.specs.Writing.{run, newAt, lengthRefusal}
-use Rattle.fileput.proofs.Runs.{length-file}
+use Rattle.filewrite.specs.Runs.{run, newAt}
+use Rattle.fileput.specs.Writing.{lengthRefusal}
+use Rattle.filewrite.proofs.Runs.{length-file}
 use Rattle.fileput.proofs.Steps.{length-is-fine}
 use Rattle.fileput.proofs.Answers.{writes-none, writes-file}
 use Rattle.fileput.proofs.write.Statement.{statement}

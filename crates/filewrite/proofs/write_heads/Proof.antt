@@ -6,10 +6,10 @@ use lib.ListN.{length}
 use Rattle.wire.specs.Over.{over}
 use Rattle.wire.proofs.Overs.{over-none}
 use Rattle.contents.specs.File.{headsOf}
-use Rattle.fileput.specs.Writing.{run, newAt, newBody, bodyRun}
-use Rattle.fileput.proofs.Turns.{turn-fits, turn-first, turn-next, heads-turn}
-use Rattle.fileput.proofs.writing.write_heads.Statement.{statement}
-use Rattle.fileput.proofs.writing.write_heads.Tie as tie
+use Rattle.filewrite.specs.Runs.{run, newAt, newBody, bodyRun}
+use Rattle.filewrite.proofs.Turns.{turn-fits, turn-first, turn-next, heads-turn}
+use Rattle.filewrite.proofs.write_heads.Statement.{statement}
+use Rattle.filewrite.proofs.write_heads.Tie as tie
 
 abbrev Inv-loop : tie.InvT-loop
 Inv-loop out₀ s i number b n start₀ j₀ out start j =

@@ -5,10 +5,10 @@ use Prim.Native.Nat.{_+_, _*_}
 use native.Mathlib.Omega.{arith}
 use Rattle.wire.specs.Over.{over}
 use Rattle.wire.proofs.Overs.{next-over}
-use Rattle.fileput.specs.Writing.{newAt}
-use Rattle.fileput.proofs.Runs.{length-run-heads, file-parts}
-use Rattle.fileput.proofs.writing.write_file.Statement.{statement}
-use Rattle.fileput.proofs.writing.write_file.Tie as tie
+use Rattle.filewrite.specs.Runs.{newAt}
+use Rattle.filewrite.proofs.Runs.{length-run-heads, file-parts}
+use Rattle.filewrite.proofs.write_file.Statement.{statement}
+use Rattle.filewrite.proofs.write_file.Tie as tie
 
 put16-requires : tie.Need-put16-requires
 put16-requires c κs = search needs

@@ -9,7 +9,7 @@ use mathlib.Core.List.{List, [], _∷_, _++_, append-assoc, append-nil}
 use lib.ListN.{length, length-append}
 use Rattle.wire.specs.Number.{bytes16}
 use Rattle.contents.specs.File.{Entry, headOf, headsOf, bodiesOf, encode}
-use Rattle.fileput.specs.Writing.{run, bodyRun, fileLength}
+use Rattle.filewrite.specs.Runs.{run, bodyRun, fileLength}
 
 pub bodies-append : (xs ys : List Entry) → bodiesOf (xs ++ ys) ≡ bodiesOf xs ++ bodiesOf ys
 unfolding bodiesOf

@@ -3,8 +3,8 @@ use borrow.Author.Needs.{needs}
 use native.Mathlib.Omega.{arith}
 use Prim.Native.Nat.{_+_}
 use Rattle.wire.proofs.Overs.{next-over}
-use Rattle.fileput.proofs.writing.put_head.Statement.{statement}
-use Rattle.fileput.proofs.writing.put_head.Tie as tie
+use Rattle.filewrite.proofs.put_head.Statement.{statement}
+use Rattle.filewrite.proofs.put_head.Tie as tie
 
 put16-requires : tie.Need-put16-requires
 put16-requires c κs = search needs

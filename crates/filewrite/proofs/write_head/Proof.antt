@@ -7,9 +7,9 @@ use lib.ListN.{length}
 use Rattle.wire.specs.Sum.{sumOf}
 use Rattle.wire.specs.Over.{over}
 use Rattle.contents.specs.File.{headOf}
-use Rattle.fileput.specs.Writing.{headBytes}
-use Rattle.fileput.proofs.writing.write_head.Statement.{statement}
-use Rattle.fileput.proofs.writing.write_head.Tie as tie
+use Rattle.filewrite.specs.Runs.{headBytes}
+use Rattle.filewrite.proofs.write_head.Statement.{statement}
+use Rattle.filewrite.proofs.write_head.Tie as tie
 
 new-body-requires : tie.Need-new-body-requires
 new-body-requires c κs = search needs

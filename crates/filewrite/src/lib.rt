@@ -4,7 +4,7 @@ ghost use Prim.Native.Nat.{_+_, _*_, _≤_, _<_};
 ghost use lib.ListN.{length};
 ghost use Rattle.wire.specs.Over.{over};
 ghost use Rattle.contents.specs.File.{headOf, headsOf, encode};
-ghost use Rattle.fileput.specs.Writing.{run, newKind, newNumber, newBody, newAt, headBytes, bodyRun, Room};
+ghost use Rattle.filewrite.specs.Runs.{run, newKind, newNumber, newBody, newAt, headBytes, bodyRun, Room};
 use entries;
 
 // The kind of entry j of the new file, whose entry i is the new table.

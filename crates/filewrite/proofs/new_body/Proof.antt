@@ -1,8 +1,8 @@
 -- By whether j is the place of the new entry.
 use borrow.Author.Needs.{needs}
 use borrow.Author.Tests.{eq-eqb, ne-eqb}
-use Rattle.fileput.proofs.writing.new_body.Statement.{statement}
-use Rattle.fileput.proofs.writing.new_body.Tie as tie
+use Rattle.filewrite.proofs.new_body.Statement.{statement}
+use Rattle.filewrite.proofs.new_body.Tie as tie
 
 returns : tie.Need-returns
 returns c = rw (eq-eqb _ _ (c .if1 .taken))

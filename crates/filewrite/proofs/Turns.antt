@@ -10,8 +10,8 @@ use Rattle.wire.specs.Over.{over}
 use Rattle.wire.proofs.Overs.{next-over}
 use Rattle.entries.specs.Entries.{bodyAt}
 use Rattle.contents.specs.File.{Entry, headOf, headsOf}
-use Rattle.fileput.specs.Writing.{run, bodyRun, fileLength, newBody}
-use Rattle.fileput.proofs.Runs.{length-head, body-next, length-next, body-most, heads-next, length-run-heads}
+use Rattle.filewrite.specs.Runs.{run, bodyRun, fileLength, newBody}
+use Rattle.filewrite.proofs.Runs.{length-head, body-next, length-next, body-most, heads-next, length-run-heads}
 
 -- a body is no longer than the file it comes from, or than the new one
 pub body-short : (s : List ℕ) (i : ℕ) (b : List ℕ) (j most : ℕ) → length s ≤ most → length b ≤ most → length (newBody s i b j) ≤ most

@@ -5,10 +5,10 @@ use native.Mathlib.Omega.{arith}
 use lib.ListN.{length}
 use Rattle.wire.specs.Over.{over}
 use Rattle.wire.proofs.Overs.{over-none}
-use Rattle.fileput.specs.Writing.{newBody, bodyRun}
-use Rattle.fileput.proofs.Turns.{turn-fits, turn-first, turn-next, bodies-turn}
-use Rattle.fileput.proofs.writing.write_bodies.Statement.{statement}
-use Rattle.fileput.proofs.writing.write_bodies.Tie as tie
+use Rattle.filewrite.specs.Runs.{newBody, bodyRun}
+use Rattle.filewrite.proofs.Turns.{turn-fits, turn-first, turn-next, bodies-turn}
+use Rattle.filewrite.proofs.write_bodies.Statement.{statement}
+use Rattle.filewrite.proofs.write_bodies.Tie as tie
 
 abbrev Inv-loop : tie.InvT-loop
 Inv-loop out₀ s i b n start₀ j₀ out start j =

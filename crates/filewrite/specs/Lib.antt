@@ -1,0 +1,2 @@
+-- What the new file is written from.
+pub mod Runs
