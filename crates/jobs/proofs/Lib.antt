@@ -4,3 +4,4 @@ pub mod Told
 pub mod Trimmed
 pub mod Done
 pub mod Row
+pub mod Determined
