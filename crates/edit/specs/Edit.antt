@@ -1,13 +1,13 @@
 -- Adding and removing a row.
 use mathlib.Core.Bool.{cond}
 use mathlib.Core.List.{List, [], _∷_, _++_}
-use Prim.Native.Nat.{ℕ, suc, _-_}
+use Prim.Native.Nat.{ℕ, suc}
 use lib.Dec.{ltb, eqb}
-use lib.ListN.{length, take, drop, replicate}
+use lib.ListN.{length, take, drop}
 use Rattle.table.specs.declared.Row.{Row}
 use Rattle.table.specs.declared.Table.{Table}
 use Rattle.table.specs.declared.Refusal.{Refusal}
-use Rattle.table.specs.Rows.{noRow}
+use Rattle.table.specs.Rows.{inRoom}
 use Rattle.table.specs.Check.{refuse, none, checkOf}
 use Rattle.table.specs.Refusals.{first}
 use Rattle.edit.specs.declared.Edited.{Edited}
@@ -22,7 +22,7 @@ withRows t l = record {
   processors = t .processors;
   depth = t .depth;
   count = length l;
-  rows = l ++ replicate (32 - length l) noRow;
+  rows = inRoom l;
 }
 
 -- "Adding puts a row at the end."

@@ -1,12 +1,12 @@
 -- The check of a list of rows.
 use mathlib.Core.Bool.{cond}
-use mathlib.Core.List.{List, _++_}
-use Prim.Native.Nat.{ℕ, _+_, _-_}
+use mathlib.Core.List.{List}
+use Prim.Native.Nat.{ℕ, _+_}
 use lib.Dec.{ltb}
 use lib.ListN.{length, getD, set, replicate}
 use Rattle.table.specs.declared.Row.{Row}
 use Rattle.table.specs.declared.Table.{Table}
-use Rattle.table.specs.Rows.{noRow}
+use Rattle.table.specs.Rows.{noRow, inRoom}
 use Rattle.table.specs.Check.{Numbers, checkRows}
 
 -- "A caller may also lend its rows as a list of records, which are checked as they stand, with m and x given beside them.";
@@ -16,7 +16,7 @@ checkList m x l = checkRows m x (length l) (λ i. getD l i noRow)
 
 -- the table of the rows of a list, with zeros after them
 abbrev pub tableOf : ℕ → ℕ → List Row → Table
-tableOf m x l = record { processors = m; depth = x; count = length l; rows = l ++ replicate (32 - length l) noRow }
+tableOf m x l = record { processors = m; depth = x; count = length l; rows = inRoom l }
 
 -- the table with no row
 abbrev pub emptyTable : ℕ → ℕ → Table
