@@ -3,7 +3,7 @@ use mathlib.Core.Path.{_≡_, refl, sym, ap, ap₂, _∙_}
 use mathlib.Core.Bool.{Bool, true, false, _&&_}
 use mathlib.Core.Logic.{⊎-elim}
 use Prim.Native.Nat.{ℕ, zero, suc, _+_, _-_, _≤_, _<_}
-use native.Mathlib.Nat.{le-refl}
+use native.Mathlib.Nat.{le-refl, eq-or-lt-of-le}
 use native.Mathlib.Numerals.{add-one}
 use native.Mathlib.Omega.{arith}
 use lib.Dec.{ltb}
@@ -52,6 +52,10 @@ module _ (p : ℕ → Bool) (b : ℕ) where
   pub tally-longer : {o k : ℕ} → o ≤ k → tally p b o ≤ tally p b k
   unfolding tally
   tally-longer h = sum-longer (λ k. bit (p (b + k))) h
+
+  -- where fewer have passed than in the window, the window goes on
+  pub tally-short : {o len c : ℕ} → o ≤ len → tally p b o < c → c ≤ tally p b len → o < len
+  tally-short {o} {len} h l m = ⊎-elim (λ (e : o ≡ len). absurd (omega (arith, ap (tally p b) e))) (λ (g : o < len). g) (eq-or-lt-of-le h)
 
   -- at most every slot passes
   pub tally-le : (o : ℕ) → tally p b o ≤ o

@@ -22,8 +22,8 @@ fn count(pins: &[u32], i: usize, from: usize, len: usize) -> usize
     total
 }
 
-// Of the slots that have row i, `total` of them, only the first c keep it.
-fn trim(pins: &mut [u32], i: usize, from: usize, len: usize, c: usize, total: usize)
+// Of the slots that have row i, `total` of them, only the first c keep it. From the end, for few that lose it.
+fn trim_back(pins: &mut [u32], i: usize, from: usize, len: usize, c: usize, total: usize)
     requires { ⌜ (from + len ≤ length (now pins)) × (c ≤ total) × (total ≡ tally (inSlot i (now pins)) from len) ⌝ }
     ensures { λ _. ⌜ Over (putting i (first c (inSlot i (now (pins .entry))) from) (now (pins .entry))) from (from + len) (now (pins .entry)) (now (pins .exit)) ⌝ }
 {
@@ -35,6 +35,45 @@ fn trim(pins: &mut [u32], i: usize, from: usize, len: usize, c: usize, total: us
         left = left - sets::bit_of(w, i);
         pins[from + o] = sets::without(w, i);
     }
+}
+
+// How many slots from `from` on it takes to have row i in c of them.
+fn reach(pins: &[u32], i: usize, from: usize, len: usize, c: usize) -> usize
+    requires { ⌜ (from + len ≤ length (now pins)) × (c ≤ tally (inSlot i (now pins)) from len) ⌝ }
+    ensures { λ r. ⌜ (r ≤ len) × (tally (inSlot i (now (pins .entry))) from r ≡ c) ⌝ }
+{
+    let mut got: usize = 0;
+    let mut o: usize = 0;
+    while got < c {
+        got = got + sets::bit_of(pins[from + o], i);
+        o += 1;
+    }
+    o
+}
+
+// Takes row i out of the slots from one to another.
+fn clear(pins: &mut [u32], i: usize, from: usize, to: usize)
+    requires { ⌜ (from ≤ to) × (to ≤ length (now pins)) ⌝ }
+    ensures { λ _. ⌜ Over (putting i (λ s. false) (now (pins .entry))) from to (now (pins .entry)) (now (pins .exit)) ⌝ }
+{
+    let mut s: usize = from;
+    while s < to {
+        pins[s] = sets::without(pins[s], i);
+        s += 1;
+    }
+}
+
+// Of the slots that have row i, `total` of them, only the first c keep it.
+fn trim(pins: &mut [u32], i: usize, from: usize, len: usize, c: usize, total: usize)
+    requires { ⌜ (from + len ≤ length (now pins)) × (c ≤ total) × (total ≡ tally (inSlot i (now pins)) from len) ⌝ }
+    ensures { λ _. ⌜ Over (putting i (first c (inSlot i (now (pins .entry))) from) (now (pins .entry))) from (from + len) (now (pins .entry)) (now (pins .exit)) ⌝ }
+{
+    if total - c <= c {
+        trim_back(pins, i, from, len, c, total);
+        return;
+    }
+    let o = reach(pins, i, from, len, c);
+    clear(pins, i, from + o, from + len);
 }
 
 // Whether a word changed, or an earlier one did.

@@ -1,113 +1,52 @@
--- Each turn clears one slot more, from the end, and keeps count of what is left before it.
-use mathlib.Core.Path.{_≡_, sym, ap, _∙_}
-use Prim.Native.Nat.{ℕ, _+_, _-_, _≤_}
-use native.Mathlib.Omega.{arith}
-use lib.ListN.{getD}
-use mathlib.Core.Bool.{false}
-use Rattle.model.specs.Sum.{bit}
-use Rattle.sets.specs.Word.{member, put}
-use Rattle.lists.specs.Over.{Over}
-use Rattle.lists.proofs.Overs.{over-none}
-use Rattle.jobs.specs.First.{inSlot, tally}
-use Rattle.jobs.specs.Passes.{putting}
-use Rattle.jobs.proofs.Tally.{bit-small, tally-le, tally-last}
-use Rattle.jobs.proofs.Trimmed.{over-before, trimmed}
+-- Few that lose the row are taken from the end; else all after the c-th slot that has it.
+use borrow.Author.Needs.{needs}
+use Rattle.jobs.proofs.Trimmed.{trimmed}
 use Rattle.jobs.proofs.trim.Statement.{statement}
 use Rattle.jobs.proofs.trim.Tie as tie
 
-abbrev Inv-loop : tie.InvT-loop
-Inv-loop pins₀ i from len c total left₀ o₀ pins left o = (o ≤ len) × (c ≤ left) × (left ≤ o) × (left ≡ tally (inSlot i pins₀) from o) × Over (putting i (λ s. false) pins₀) (from + o) (from + len) pins₀ pins
+sub-if1 : tie.Need-sub-if1
+sub-if1 c = search needs
 
-abbrev μ-loop : tie.MeasureT-loop
-μ-loop pins₀ i from len c total left₀ o₀ pins left o = o
+trim-back-requires : tie.Need-trim-back-requires
+trim-back-requires c κs = search needs
 
-loop-holds : tie.Need-loop-holds Inv-loop μ-loop
-loop-holds c =
-    let p = c .before .pre in
-    (omega arith, p .1, omega (arith, p .2, tally-le (inSlot (c .before .args .i) (c .before .args .pins .now)) (c .before .args .from) (c .before .args .len)), p .2, over-none _ _ _)
+same-length : tie.Need-same-length
+same-length c = search needs
 
-sub-o : tie.Need-sub-o Inv-loop μ-loop
-sub-o c = omega arith
+returns : tie.Need-returns
+returns c = search needs
 
-add-w : tie.Need-add-w Inv-loop μ-loop
-add-w c = omega arith
+reach-requires : tie.Need-reach-requires
+reach-requires c κs = search needs
 
-mul-w : tie.Need-mul-w Inv-loop μ-loop
-mul-w c = omega arith
+add-clear : tie.Need-add-clear
+add-clear c = search needs
 
-slice-read-w : tie.Need-slice-read-w Inv-loop μ-loop
-slice-read-w c = omega arith
+add-clear-2 : tie.Need-add-clear-2
+add-clear-2 c = search needs
 
-bit-of-requires : tie.Need-bit-of-requires Inv-loop μ-loop
-bit-of-requires c κs = tt
+clear-requires : tie.Need-clear-requires
+clear-requires c κs = search needs
 
-sub-left : tie.Need-sub-left Inv-loop μ-loop
-sub-left c =
-    let st = c .before .before .before in
-    let a = c .before .before .before .before .before .args in
-    omega (arith, bit-small (inSlot (a .i) (st .loop .pins) (a .from + (st .loop .o - 1))) (c .bit-of .ensures))
+same-length-2 : tie.Need-same-length-2
+same-length-2 c = search needs
 
-without-requires : tie.Need-without-requires Inv-loop μ-loop
-without-requires c κs = tt
-
-add-pins : tie.Need-add-pins Inv-loop μ-loop
-add-pins c = omega arith
-
-mul-pins : tie.Need-mul-pins Inv-loop μ-loop
-mul-pins c = omega arith
-
-slice-write-pins : tie.Need-slice-write-pins Inv-loop μ-loop
-slice-write-pins c = omega arith
-
-loop-less : tie.Need-loop-less Inv-loop μ-loop
-loop-less c = omega arith
-
-loop-again : tie.Need-loop-again Inv-loop μ-loop
-loop-again c =
-    let st = c .before .before .before .before in
-    let a = c .before .before .before .before .before .before .args in
-    let o = st .loop .o in
-    let p = inSlot (a .i) (a .pins .now) in
-    let v = st .loop .inv in
-    let l : c .before .bit-of .result ≤ 1 = bit-small (inSlot (a .i) (st .loop .pins) (a .from + (o - 1))) (c .before .bit-of .ensures) in
-    let w : getD (st .loop .pins) (a .from + (o - 1)) 0 ≡ getD (a .pins .now) (a .from + (o - 1)) 0 = v .4 .low (a .from + (o - 1)) (omega arith) in
-    let d : tally p (a .from) o ≡ tally p (a .from) (o - 1) + c .before .bit-of .result =
-    tally-last p (a .from) o (omega arith) ∙ ap (λ (x : ℕ). tally p (a .from) (o - 1) + x) (ap (λ (x : ℕ). bit (member (a .i) x)) (sym w) ∙ sym (c .before .bit-of .ensures)) in
-    let e : st .loop .left - c .before .bit-of .result ≡ tally p (a .from) (o - 1) = omega (arith, v .3, d) in (
-      omega arith,
-      omega arith,
-      omega (arith, e, tally-le p (a .from) (o - 1)),
-      e,
-      over-before (v .4) (omega arith) (omega arith) (omega arith) (c .without .ensures ∙ ap (put (a .i) false) w),
-    )
-
-same-length : tie.Need-same-length Inv-loop μ-loop
-same-length c = c .before .loop .inv .4 .len
-
-returns : tie.Need-returns Inv-loop μ-loop
-returns c =
-    let st = c .before in
-    let e : st .loop .left ≡ c .before .before .before .args .c = omega arith in
-    trimmed _ _ _ _ _ (st .loop .inv .0) (sym (st .loop .inv .3) ∙ e) (st .loop .inv .4)
+returns-2 : tie.Need-returns-2
+returns-2 c =
+    let r = c .before .before .before .before .reach .ensures in
+    trimmed _ _ _ _ _ (r .0) (r .1) (c .before .before .clear .ensures)
 
 pub trim-spec : {M : Type 1} → statement M
 trim-spec =
     tie.close
     (tie.spec
-    Inv-loop
-    μ-loop
-    loop-holds
-    sub-o
-    add-w
-    mul-w
-    slice-read-w
-    bit-of-requires
-    sub-left
-    without-requires
-    add-pins
-    mul-pins
-    slice-write-pins
-    loop-less
-    loop-again
+    sub-if1
+    trim-back-requires
     same-length
-    returns)
+    returns
+    reach-requires
+    add-clear
+    add-clear-2
+    clear-requires
+    same-length-2
+    returns-2)
