@@ -1,4 +1,3 @@
--- The laws of a table's body: rows read, rows written, and its refusals.
-pub mod Reading
+-- The laws of a table's body: rows written, and its refusals.
 pub mod Writing
 pub mod Refusals

@@ -1,10 +1,10 @@
 -- "A table body: m, x, the row count and a zero byte, then T, C, D of each row, 2 bytes each."
-use Prim.Native.Nat.{ℕ, zero, suc, _+_, _*_, _-_, min}
+use Prim.Native.Nat.{ℕ, _+_, _*_, min}
 use mathlib.Core.List.{List, [], _∷_, _++_}
-use lib.ListN.{getD, take, replicate}
+use lib.ListN.{getD, take}
 use Rattle.table.specs.declared.Row.{Row}
 use Rattle.table.specs.declared.Table.{Table}
-use Rattle.table.specs.Rows.{noRow}
+use Rattle.table.specs.Rows.{rowsBy, roomBy}
 use Rattle.wire.specs.Number.{at16, bytes16}
 
 -- row i of the body b
@@ -12,13 +12,12 @@ unfoldable pub rowOf : List ℕ → ℕ → Row
 rowOf b i = record { period = at16 b (4 + 6 * i); execution = at16 b (4 + 6 * i + 2); deadline = at16 b (4 + 6 * i + 4) }
 
 -- the first k rows of the body b
-unfoldable pub rowsOf : List ℕ → ℕ → List Row
-rowsOf b zero = []
-rowsOf b (suc k) = rowsOf b k ++ (rowOf b k ∷ [])
+abbrev pub rowsOf : List ℕ → ℕ → List Row
+rowsOf b = rowsBy (rowOf b)
 
 -- k rows in the room for 32: "Rows past the count [..] are all zeros in every table that is returned"
-unfoldable pub roomOf : List ℕ → ℕ → List Row
-roomOf b k = rowsOf b k ++ replicate (32 - k) noRow
+abbrev pub roomOf : List ℕ → ℕ → List Row
+roomOf b = roomBy 32 (rowOf b)
 
 -- the table of the body b
 unfoldable pub tableOf : List ℕ → Table

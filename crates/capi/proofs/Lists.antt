@@ -10,8 +10,8 @@ use borrow.Author.Tests.{le-leb, lt-leb}
 use Rattle.table.specs.declared.Row.{Row}
 use Rattle.table.specs.Check.{checkRows}
 use Rattle.rowlist.specs.List.{checkList}
-use Rattle.plain.specs.Lent.{rowsOf}
-use Rattle.plain.proofs.Reading.{length-rows, take-rows}
+use Rattle.table.proofs.RowsBy.{length-rows, take-rows}
+use Rattle.plain.specs.Lent.{rowOf, rowsOf}
 
 module _ (m x : ℕ) where
   too-many : (a b : List Row) → 32 < length a → 32 < length b → checkList m x a ≡ checkList m x b
@@ -24,7 +24,7 @@ module _ (m x : ℕ) where
       go : Dec (k ≤ 33) → checkList m x (take k (rowsOf l 33)) ≡ checkList m x (rowsOf l k)
       go (yes h) =
           let e : 33 ≡ k + (33 - k) = omega arith in
-          ap (checkList m x) (ap (λ (n : ℕ). take k (rowsOf l n)) e ∙ take-rows l k (33 - k))
+          ap (checkList m x) (ap (λ (n : ℕ). take k (rowsOf l n)) e ∙ take-rows (rowOf l) k (33 - k))
       go (no h) =
-          ap (checkList m x) (take-all k (rowsOf l 33) (omega (arith, length-rows l 33)))
-          ∙ too-many (rowsOf l 33) (rowsOf l k) (omega (arith, length-rows l 33)) (omega (arith, length-rows l k))
+          ap (checkList m x) (take-all k (rowsOf l 33) (omega (arith, length-rows (rowOf l) 33)))
+          ∙ too-many (rowsOf l 33) (rowsOf l k) (omega (arith, length-rows (rowOf l) 33)) (omega (arith, length-rows (rowOf l) k))

@@ -1,7 +1,7 @@
 // One depth further, in place: the pins of a depth and the map of the next.
 ghost use mathlib.Core.Path.{_≡_};
 ghost use mathlib.Core.Bool.{false};
-ghost use Prim.Native.Nat.{_≤_, _<_};
+ghost use Prim.Native.Nat.{_≤_, _<_, min};
 ghost use lib.ListN.{length, getD};
 ghost use Rattle.model.specs.Depths.{available};
 ghost use Rattle.sets.specs.Word.{upTo};
@@ -69,13 +69,19 @@ pub fn deepen(t: Table, h: usize, map: &mut [u32], pins: &mut [u32]) -> bool
     changed
 }
 
-// No row in the first h sets.
+fn lesser(a: usize, b: usize) -> usize
+    ensures { λ r. ⌜ r ≡ min a b ⌝ }
+{
+    if a < b { a } else { b }
+}
+
+// No row in the first h sets, as far as the list has them.
 pub fn zero(list: &mut [u32], h: usize)
-    requires { ⌜ h ≤ length (now list) ⌝ }
     ensures { λ _. ⌜ Over (λ s. 0) 0 h (now (list .entry)) (now (list .exit)) ⌝ }
 {
+    let end = lesser(h, list.len());
     let mut s: usize = 0;
-    while s < h {
+    while s < end {
         list[s] = 0;
         s += 1;
     }

@@ -6,12 +6,12 @@ use mathlib.Core.List.{List, [], _∷_, _++_, append-assoc, append-nil}
 use lib.ListN.{length, take, drop, getD, replicate}
 use lib.Seq.{take-at, drop-length}
 use Rattle.table.specs.declared.Row.{Row}
-use Rattle.table.specs.Rows.{noRow}
+use Rattle.table.specs.Rows.{noRow, rowsBy, roomBy}
 use Rattle.table.proofs.Accepted.{accepted}
 use Rattle.wire.specs.Number.{at16, bytes16}
-use Rattle.bodies.specs.Body.{rowOf, rowsOf, roomOf, tableOf, rowBytes, rowsBytes, tableBytes}
+use Rattle.bodies.specs.Body.{rowOf, rowsOf, tableOf, rowBytes, rowsBytes, tableBytes}
 use Rattle.bodies.specs.Refusal.{bodyRefusal}
-use Rattle.bodies.proofs.Reading.{length-rows}
+use Rattle.table.proofs.RowsBy.{length-rows}
 use Rattle.bodies.proofs.Writing.{rows-append}
 use Rattle.bodies.proofs.Refusals.{body-is-fine}
 use Rattle.filelaws.specs.Valid.{Bytes}
@@ -26,7 +26,7 @@ row-back b k h l =
     ∙ bytes16-at b a h (omega arith)
 
 rows-back : (b : List ℕ) (k : ℕ) → Bytes b → 4 + 6 * k ≤ length b → rowsBytes (rowsOf b k) ++ drop (4 + 6 * k) b ≡ drop 4 b
-unfolding rowsOf rowsBytes
+unfolding rowsBy rowsBytes
 rows-back b zero h l = refl
 rows-back b (suc k) h l =
     let p : 4 + 6 * suc k ≡ 4 + 6 * k + 6 = omega arith in
@@ -45,7 +45,7 @@ first-four (w ∷ x ∷ y ∷ z ∷ r) h = refl
 
 -- a body with no refusal is the body of its table
 pub table-back : (b : List ℕ) → Bytes b → bodyRefusal b .no ≡ 0 → tableBytes (tableOf b) ≡ b
-unfolding tableBytes tableOf roomOf
+unfolding tableBytes tableOf roomBy
 table-back b h e =
     let f = body-is-fine b e in
     let c = getD b 2 0 in
@@ -54,7 +54,7 @@ table-back b h e =
     let l = f .long in
     let whole : drop (4 + 6 * c) b ≡ [] = ap (λ (n : ℕ). drop n b) (sym l) ∙ drop-length b in
     ap (λ (r : List Row). getD b 0 0 ∷ getD b 1 0 ∷ c ∷ 0 ∷ rowsBytes r)
-    (ap (λ (n : ℕ). take c (rowsOf b n ++ replicate (32 - n) noRow)) m ∙ take-at (rowsOf b c) _ c (length-rows b c))
+    (ap (λ (n : ℕ). take c (rowsOf b n ++ replicate (32 - n) noRow)) m ∙ take-at (rowsOf b c) _ c (length-rows (rowOf b) c))
     ∙ ap₂ (λ (z : ℕ) (r : List ℕ). getD b 0 0 ∷ getD b 1 0 ∷ c ∷ z ∷ r) (sym (f .zeroed))
     (sym (append-nil (rowsBytes (rowsOf b c))) ∙ ap (λ (l : List ℕ). rowsBytes (rowsOf b c) ++ l) (sym whole) ∙ rows-back b c h (omega arith))
     ∙ first-four b (f .four)

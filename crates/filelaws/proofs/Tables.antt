@@ -8,13 +8,13 @@ use lib.ListN.{length, take, drop, getD, replicate, List·getD-append}
 use lib.Seq.{take-suc, take-take, drop-drop, length-take-le, getD-take}
 use Rattle.table.specs.declared.Row.{Row}
 use Rattle.table.specs.declared.Table.{Table}
-use Rattle.table.specs.Rows.{noRow}
+use Rattle.table.specs.Rows.{noRow, rowsBy, roomBy}
 use Rattle.table.specs.Check.{Numbers, checkOf}
 use Rattle.table.specs.Meaning.{Accepted}
 use Rattle.table.proofs.Accepted.{accepted}
 use Rattle.table.proofs.Past.{past-the-count}
 use Rattle.wire.specs.Number.{at16, bytes16}
-use Rattle.bodies.specs.Body.{rowOf, rowsOf, roomOf, tableOf, rowBytes, rowsBytes, tableBytes}
+use Rattle.bodies.specs.Body.{rowOf, rowsOf, tableOf, rowBytes, rowsBytes, tableBytes}
 use Rattle.bodies.specs.Refusal.{tableRefusal, bodyRefusal}
 use Rattle.bodies.proofs.Writing.{length-rows-bytes}
 use Rattle.filelaws.specs.Valid.{Bytes}
@@ -42,7 +42,7 @@ row-read b i (r ∷ rs) (suc k) p h =
     ap (rowOf b) turn ∙ row-read b (suc i) rs k (ap (λ (n : ℕ). drop n b) q ∙ sym (drop-drop 6 (4 + 6 * i) b) ∙ ap (drop 6) p) (omega arith)
 
 rows-read : (b : List ℕ) (rs : List Row) (k : ℕ) → drop 4 b ≡ rowsBytes rs → k ≤ length rs → rowsOf b k ≡ take k rs
-unfolding rowsOf
+unfolding rowsBy
 rows-read b rs zero p h = refl
 rows-read b rs (suc k) p h =
     ap₂ (λ (l : List Row) (r : Row). l ++ (r ∷ [])) (rows-read b rs k p (omega arith)) (ap (rowOf b) (sym (zero-add k)) ∙ row-read b 0 rs k p h)
@@ -75,7 +75,7 @@ module _ (t : Table) (room : length (t .rows) ≡ 32) (fine : tableRefusal t .no
 
   -- the body of a table holds the table, with zeros past its count
   pub bytes-back : tableOf (tableBytes t) ≡ cleared t
-  unfolding tableOf tableBytes roomOf
+  unfolding tableOf tableBytes roomBy
   bytes-back =
       let c = t .count in
       let m : min c 32 ≡ c = omega (arith, within .count-high) in

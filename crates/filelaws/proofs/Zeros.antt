@@ -10,9 +10,9 @@ use lib.Seq.{getD-append-add}
 use lib.Dec.{eqb}
 use Rattle.table.specs.declared.Row.{Row}
 use Rattle.table.specs.declared.Table.{Table}
-use Rattle.table.specs.Rows.{noRow, rowAt}
-use Rattle.bodies.specs.Body.{rowsOf, roomOf, tableOf}
-use Rattle.bodies.proofs.Reading.{length-rows}
+use Rattle.table.specs.Rows.{noRow, rowAt, roomBy}
+use Rattle.bodies.specs.Body.{rowOf, rowsOf, tableOf}
+use Rattle.table.proofs.RowsBy.{length-rows}
 use Rattle.taskfile.specs.Find.{findRefusal, noTable, findOf}
 
 no-rows : (n i : ℕ) → getD (replicate n noRow) i noRow ≡ noRow
@@ -34,10 +34,10 @@ abbrev pub Zeros : Table → Type 0
 Zeros t = (i : ℕ) → t .count ≤ i → rowAt t i ≡ noRow
 
 table-zeros : (b : List ℕ) → Zeros (tableOf b)
-unfolding tableOf roomOf
+unfolding tableOf roomBy
 table-zeros b i h =
     let c = min (getD b 2 0) 32 in
-    past-rows (rowsOf b c) (32 - c) i (omega (arith, length-rows b c))
+    past-rows (rowsOf b c) (32 - c) i (omega (arith, length-rows (rowOf b) c))
 
 pub find-zeros : (s : List ℕ) (number : ℕ) → Zeros (findOf s number .table)
 unfolding findOf

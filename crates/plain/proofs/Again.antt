@@ -8,6 +8,7 @@ use lib.Seq.{take-all, take-suc}
 use Rattle.table.specs.declared.Row.{Row}
 use Rattle.table.specs.declared.Table.{Table}
 use Rattle.table.specs.Rows.{noRow}
+use Rattle.table.specs.Rows.{rowsBy}
 use Rattle.plain.specs.Lent.{rowOf, rowsOf, tableOf, threes, numbersOf}
 use Rattle.plain.proofs.Table.{T, C, D}
 use Rattle.plain.proofs.Threes.{first-at, second-at, third-at}
@@ -18,7 +19,7 @@ row-again l i h =
     rw (first-at T C D noRow l i h, second-at T C D noRow l i h, third-at T C D noRow l i h)
 
 rows-again : (l : List Row) (k : ℕ) → k ≤ length l → rowsOf (threes T C D l) k ≡ take k l
-unfolding rowsOf
+unfolding rowsBy
 rows-again l zero h = refl
 rows-again l (suc k) h =
     ap₂ (λ (a : List Row) (r : Row). a ++ (r ∷ [])) (rows-again l k (omega arith)) (row-again l k h)

@@ -1,5 +1,4 @@
 -- The laws of tables and answers in plain numbers.
-pub mod Reading
 pub mod Upto
 pub mod Threes
 pub mod Table

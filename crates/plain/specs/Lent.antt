@@ -1,11 +1,12 @@
 -- A table as it is lent and as it is given back: m, x, count, and three numbers a row.
-use Prim.Native.Nat.{ℕ, zero, suc, _+_, _*_, _/_, _%_}
+use Prim.Native.Nat.{ℕ, _+_, _*_, _/_, _%_}
 use mathlib.Core.Bool.{cond}
-use mathlib.Core.List.{List, [], _∷_, _++_}
+use mathlib.Core.List.{List, [], _∷_}
 use lib.Dec.{eqb}
 use lib.ListN.{length, getD}
 use Rattle.table.specs.declared.Row.{Row}
 use Rattle.table.specs.declared.Table.{Table}
+use Rattle.table.specs.Rows.{rowsBy}
 
 abbrev pub rowGiven : ℕ → ℕ → ℕ → Row
 rowGiven T C D = record { period = T; execution = C; deadline = D }
@@ -15,9 +16,8 @@ unfoldable pub rowOf : List ℕ → ℕ → Row
 rowOf l i = rowGiven (getD l (3 * i) 0) (getD l (3 * i + 1) 0) (getD l (3 * i + 2) 0)
 
 -- its first k rows
-unfoldable pub rowsOf : List ℕ → ℕ → List Row
-rowsOf l zero = []
-rowsOf l (suc k) = rowsOf l k ++ (rowOf l k ∷ [])
+abbrev pub rowsOf : List ℕ → ℕ → List Row
+rowsOf l = rowsBy (rowOf l)
 
 -- the table that is lent: "room for 32 rows", so numbers past the 96th are not looked at
 unfoldable pub tableOf : ℕ → ℕ → ℕ → List ℕ → Table

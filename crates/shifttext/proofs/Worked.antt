@@ -18,7 +18,8 @@ use Rattle.table.specs.Refusals.{when, unless, first, inTurn}
 use Rattle.entries.specs.Kinds.{kindOf}
 use Rattle.entries.specs.Entries.{countOf, formOf, kindAt, numberAt, startAt, lengthAt, sumAt, bodyAt, placeOf, seekIn}
 use Rattle.contents.specs.Contents.{headRefusal, entryRefusal, leftOver, contentsRefusal}
-use Rattle.bodies.specs.Body.{rowOf, rowsOf, roomOf, tableOf}
+use Rattle.table.specs.Rows.{rowsBy, roomBy}
+use Rattle.bodies.specs.Body.{rowOf, tableOf}
 use Rattle.bodies.specs.Refusal.{bodyRefusal}
 use Rattle.taskfile.specs.Check.{partRefusal, fileRefusal}
 use Rattle.taskfile.proofs.Worked.{worked}
@@ -30,5 +31,5 @@ use Rattle.shifttext.specs.Line.{infeasibleLine, undecidedLine, refusedL
 use Rattle.shifttext.specs.Text.{verdictAt, entryLine, linesTo, textOf}
 
 pub worked-text : textOf worked ≡ 84 ∷ 65 ∷ 66 ∷ 76 ∷ 69 ∷ 32 ∷ 55 ∷ 32 ∷ 73 ∷ 78 ∷ 70 ∷ 69 ∷ 65 ∷ 83 ∷ 73 ∷ 66 ∷ 76 ∷ 69 ∷ 32 ∷ 56 ∷ 32 ∷ 49 ∷ 52 ∷ 32 ∷ 49 ∷ 51 ∷ 10 ∷ []
-unfolding worked textOf linesTo entryLine verdictAt tableLine infeasibleLine undecidedLine refusedLine decimal decimalIn judgeOf admitOf lineOf leastFailing fails workDue jobsDue supply usable size sum available window fileRefusal partRefusal bodyRefusal tableOf roomOf rowsOf rowOf contentsRefusal headRefusal entryRefusal leftOver when unless first inTurn kindOf countOf formOf kindAt numberAt startAt lengthAt sumAt bodyAt placeOf seekIn at16 at32 sumOf sumFrom least leastFrom checkOf checkRows checkEach checkFrame rowRefusal faulty frameOf overAt divisor divisorIn multiple
+unfolding worked textOf linesTo entryLine verdictAt tableLine infeasibleLine undecidedLine refusedLine decimal decimalIn judgeOf admitOf lineOf leastFailing fails workDue jobsDue supply usable size sum available window fileRefusal partRefusal bodyRefusal tableOf roomBy rowsBy rowOf contentsRefusal headRefusal entryRefusal leftOver when unless first inTurn kindOf countOf formOf kindAt numberAt startAt lengthAt sumAt bodyAt placeOf seekIn at16 at32 sumOf sumFrom least leastFrom checkOf checkRows checkEach checkFrame rowRefusal faulty frameOf overAt divisor divisorIn multiple
 worked-text = refl

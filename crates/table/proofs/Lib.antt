@@ -7,4 +7,5 @@ pub mod Ranges
 pub mod Accepted
 pub mod Past
 pub mod Determined
+pub mod RowsBy
 pub mod Refusals

@@ -5,7 +5,7 @@ use mathlib.Core.List.{List, [], _∷_}
 use lib.ListN.{replicate}
 use Rattle.table.specs.declared.Row.{Row}
 use Rattle.table.specs.declared.Table.{Table}
-use Rattle.table.specs.Rows.{noRow}
+use Rattle.table.specs.Rows.{noRow, rowsBy, roomBy}
 use Rattle.table.specs.Check.{none, checkOf, checkRows, checkEach, checkFrame, rowRefusal, faulty}
 use Rattle.table.specs.Frame.{frameOf, overAt}
 use Rattle.table.specs.Least.{least, leastFrom}
@@ -16,7 +16,7 @@ use Rattle.table.specs.Refusals.{when, unless, first, inTurn}
 use Rattle.entries.specs.Kinds.{kindOf}
 use Rattle.entries.specs.Entries.{countOf, formOf, kindAt, numberAt, startAt, lengthAt, sumAt, bodyAt, placeOf, seekIn}
 use Rattle.contents.specs.Contents.{headRefusal, entryRefusal, leftOver, contentsRefusal}
-use Rattle.bodies.specs.Body.{rowOf, rowsOf, roomOf, tableOf}
+use Rattle.bodies.specs.Body.{rowOf, tableOf}
 use Rattle.bodies.specs.Refusal.{bodyRefusal}
 use Rattle.taskfile.specs.declared.CheckedFile.the-variants.{Entries}
 use Rattle.taskfile.specs.Check.{partRefusal, fileRefusal, numbers, checkFile}
@@ -36,9 +36,9 @@ unfolding row
 table = record { processors = 2; depth = 1; count = 3; rows = row 2 1 1 ∷ row 3 2 2 ∷ row 4 2 3 ∷ replicate 29 noRow }
 
 pub worked-checked : checkFile worked ≡ numbers (Entries 1)
-unfolding worked checkFile fileRefusal partRefusal bodyRefusal tableOf roomOf rowsOf rowOf contentsRefusal headRefusal entryRefusal leftOver when unless first inTurn kindOf countOf formOf kindAt numberAt startAt lengthAt sumAt bodyAt placeOf seekIn at16 at32 sumOf sumFrom least leastFrom checkOf checkRows checkEach checkFrame rowRefusal faulty frameOf overAt divisor divisorIn multiple
+unfolding worked checkFile fileRefusal partRefusal bodyRefusal tableOf roomBy rowsBy rowOf contentsRefusal headRefusal entryRefusal leftOver when unless first inTurn kindOf countOf formOf kindAt numberAt startAt lengthAt sumAt bodyAt placeOf seekIn at16 at32 sumOf sumFrom least leastFrom checkOf checkRows checkEach checkFrame rowRefusal faulty frameOf overAt divisor divisorIn multiple
 worked-checked = refl
 
 pub worked-found : findOf worked 7 ≡ record { refusal = none; table = table }
-unfolding worked table findOf findRefusal tableHas fileRefusal partRefusal bodyRefusal tableOf roomOf rowsOf rowOf contentsRefusal headRefusal entryRefusal leftOver when unless first inTurn kindOf countOf formOf kindAt numberAt startAt lengthAt sumAt bodyAt placeOf seekIn at16 at32 sumOf sumFrom least leastFrom checkOf checkRows checkEach checkFrame rowRefusal faulty frameOf overAt divisor divisorIn multiple
+unfolding worked table findOf findRefusal tableHas fileRefusal partRefusal bodyRefusal tableOf roomBy rowsBy rowOf contentsRefusal headRefusal entryRefusal leftOver when unless first inTurn kindOf countOf formOf kindAt numberAt startAt lengthAt sumAt bodyAt placeOf seekIn at16 at32 sumOf sumFrom least leastFrom checkOf checkRows checkEach checkFrame rowRefusal faulty frameOf overAt divisor divisorIn multiple
 worked-found = refl

@@ -6,7 +6,7 @@ use lib.ListN.{set}
 use Rattle.table.specs.declared.Row.{Row}
 use mathlib.Core.List.{List}
 use Rattle.bodies.specs.Body.{roomOf}
-use Rattle.bodies.proofs.Reading.{no-rows, rows-more}
+use Rattle.table.proofs.RowsBy.{room-none, room-more}
 use Rattle.bodies.proofs.read_rows.Statement.{statement}
 use Rattle.bodies.proofs.read_rows.Tie as tie
 
@@ -17,7 +17,7 @@ abbrev μ-loop : tie.MeasureT-loop
 μ-loop b n rows₀ i₀ rows i = n - i
 
 loop-holds : tie.Need-loop-holds Inv-loop μ-loop
-loop-holds c = (omega arith, no-rows _)
+loop-holds c = (omega arith, room-none _ 32)
 
 read-row-requires : tie.Need-read-row-requires Inv-loop μ-loop
 read-row-requires c κs = omega arith
@@ -37,7 +37,7 @@ loop-less c = omega arith
 loop-again : tie.Need-loop-again Inv-loop μ-loop
 loop-again c =
     let l = c .before .before .loop in
-    (omega arith, ap₂ (λ (rs : List Row) (r : Row). set rs (l .i) r) (l .inv .1) (c .read-row .ensures) ∙ rows-more _ (l .i) (omega arith))
+    (omega arith, ap₂ (λ (rs : List Row) (r : Row). set rs (l .i) r) (l .inv .1) (c .read-row .ensures) ∙ room-more _ 32 (l .i) (omega arith))
 
 returns : tie.Need-returns Inv-loop μ-loop
 returns c =

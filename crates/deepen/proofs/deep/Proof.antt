@@ -19,7 +19,7 @@ abbrev μ-loop : tie.MeasureT-loop
 μ-loop t h map₀ pins₀ x y₀ map pins y = x - y
 
 zero-requires : tie.Need-zero-requires Inv-loop μ-loop
-zero-requires c κs = c .before .before .before .pre .0 .2
+zero-requires c κs = tt
 
 size-requires : tie.Need-size-requires Inv-loop μ-loop
 size-requires c κs = tt

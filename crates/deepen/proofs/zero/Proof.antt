@@ -1,43 +1,48 @@
--- Each turn stores one zero more.
+-- Each turn stores one zero more; past the list's end every place reads as zero.
 use mathlib.Core.Path.{_≡_, refl}
 use Prim.Native.Nat.{_-_, _≤_}
 use native.Mathlib.Omega.{arith}
+use lib.ListN.{List·getD-eq-default}
 use Rattle.lists.specs.Over.{Over}
-use Rattle.lists.proofs.Overs.{over-none, over-more}
+use Rattle.lists.proofs.Overs.{over-none, over-more, over-on}
 use Rattle.deepen.proofs.zero.Statement.{statement}
 use Rattle.deepen.proofs.zero.Tie as tie
 
 abbrev Inv-loop : tie.InvT-loop
-Inv-loop list₀ h s₀ list s = (s ≤ h) × Over (λ k. 0) 0 s list₀ list
+Inv-loop list₀ h end s₀ list s = (s ≤ end) × Over (λ k. 0) 0 s list₀ list
 
 abbrev μ-loop : tie.MeasureT-loop
-μ-loop list₀ h s₀ list s = h - s
+μ-loop list₀ h end s₀ list s = end - s
+
+lesser-requires : tie.Need-lesser-requires Inv-loop μ-loop
+lesser-requires c κs = tt
 
 loop-holds : tie.Need-loop-holds Inv-loop μ-loop
 loop-holds c = (omega arith, over-none _ _ _)
 
 mul-list : tie.Need-mul-list Inv-loop μ-loop
-mul-list c = omega arith
+mul-list c = omega (arith, c .before .before .lesser .ensures)
 
 slice-write-list : tie.Need-slice-write-list Inv-loop μ-loop
-slice-write-list c = omega arith
+slice-write-list c = omega (arith, c .before .before .lesser .ensures, c .before .loop .inv .1 .len)
 
 add-s : tie.Need-add-s Inv-loop μ-loop
-add-s c = omega arith
+add-s c = omega (arith, c .before .before .lesser .ensures)
 
 loop-less : tie.Need-loop-less Inv-loop μ-loop
 loop-less c = omega arith
 
 loop-again : tie.Need-loop-again Inv-loop μ-loop
-loop-again c = (omega arith, over-more (c .before .loop .inv .1) (omega arith) (omega arith) refl)
+loop-again c = (omega arith, over-more (c .before .loop .inv .1) (omega arith) (omega (arith, c .before .before .lesser .ensures)) refl)
 
 same-length : tie.Need-same-length Inv-loop μ-loop
 same-length c = c .before .loop .inv .1 .len
 
 returns : tie.Need-returns Inv-loop μ-loop
 returns c =
-    let e : c .before .loop .s ≡ c .before .before .args .h = omega arith in
-    rw e at (c .before .loop .inv .1)
+    let a = c .before .before .before .before .args in
+    let e = c .before .before .lesser .ensures in
+    over-on (c .before .loop .inv .1) (omega (arith, e)) (λ s j k. List·getD-eq-default (a .list .now) 0 {n = s} (omega (arith, e)))
 
 pub zero-spec : {M : Type 1} → statement M
 zero-spec =
@@ -45,6 +50,7 @@ zero-spec =
     (tie.spec
     Inv-loop
     μ-loop
+    lesser-requires
     loop-holds
     mul-list
     slice-write-list

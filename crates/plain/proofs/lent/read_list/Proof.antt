@@ -5,18 +5,20 @@ use Prim.Native.Nat.{_-_, _≤_}
 use native.Mathlib.Omega.{arith}
 use lib.ListN.{set}
 use Rattle.table.specs.declared.Row.{Row}
-use Rattle.plain.proofs.Reading.{readTo, read-none, read-more, read-all}
+use Rattle.table.specs.Rows.{roomBy}
+use Rattle.table.proofs.RowsBy.{room-none, room-more, room-all}
+use Rattle.plain.specs.Lent.{rowOf}
 use Rattle.plain.proofs.lent.read_list.Statement.{statement}
 use Rattle.plain.proofs.lent.read_list.Tie as tie
 
 abbrev Inv-loop : tie.InvT-loop
-Inv-loop l rows₀ i₀ rows i = (i ≤ 33) × (rows ≡ readTo 33 l i)
+Inv-loop l rows₀ i₀ rows i = (i ≤ 33) × (rows ≡ roomBy 33 (rowOf l) i)
 
 abbrev μ-loop : tie.MeasureT-loop
 μ-loop l rows₀ i₀ rows i = 33 - i
 
 loop-holds : tie.Need-loop-holds Inv-loop μ-loop
-loop-holds c = (omega arith, read-none 33 _)
+loop-holds c = (omega arith, room-none _ 33)
 
 read-row-requires : tie.Need-read-row-requires Inv-loop μ-loop
 read-row-requires c κs = omega arith
@@ -36,13 +38,13 @@ loop-less c = omega arith
 loop-again : tie.Need-loop-again Inv-loop μ-loop
 loop-again c =
     let l = c .before .before .loop in
-    (omega arith, ap₂ (λ (rs : List Row) (r : Row). set rs (l .i) r) (l .inv .1) (c .read-row .ensures) ∙ read-more 33 _ (l .i) (omega arith))
+    (omega arith, ap₂ (λ (rs : List Row) (r : Row). set rs (l .i) r) (l .inv .1) (c .read-row .ensures) ∙ room-more _ 33 (l .i) (omega arith))
 
 returns : tie.Need-returns Inv-loop μ-loop
 returns c =
     let l = c .before .loop in
     let e : l .i ≡ 33 = omega arith in
-    l .inv .1 ∙ ap (readTo 33 _) e ∙ read-all 33 _
+    l .inv .1 ∙ ap (roomBy 33 _) e ∙ room-all _ 33
 
 pub read-list-spec : {M : Type 1} → statement M
 read-list-spec =
