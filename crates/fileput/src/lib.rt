@@ -6,7 +6,6 @@ ghost use Rattle.contents.specs.File.{encode};
 ghost use Rattle.fileput.specs.Put.{noteHas, Puts};
 ghost use Rattle.filewrite.specs.Runs.{run, newBody, newAt, fileLength};
 ghost use Rattle.fileput.specs.Writing.{newCount, earlyRefusal, lengthRefusal, Writes};
-use entries;
 use table::Refusal;
 use table::Table;
 

@@ -5,7 +5,6 @@ ghost use lib.ListN.{length};
 ghost use Rattle.wire.specs.Over.{over};
 ghost use Rattle.contents.specs.File.{headOf, headsOf, encode};
 ghost use Rattle.filewrite.specs.Runs.{run, newKind, newNumber, newBody, newAt, headBytes, bodyRun, Room};
-use entries;
 
 // The kind of entry j of the new file, whose entry i is the new table.
 fn new_kind(s: &[u8], i: u16, j: u16) -> u16

@@ -6,7 +6,7 @@ use Prim.Native.Nat.{ℕ, zero, suc, _+_, _-_, _≤_, _<_}
 use native.Mathlib.Nat.{le-of-suc-le-suc, not-suc-le-zero, eq-or-lt-of-le}
 use native.Mathlib.Omega.{arith}
 use lib.ListN.{length, getD, set, drop, length-set}
-use lib.Seq.{getD-set-same, getD-set-other, set-getD}
+use lib.Seq.{getD-set-same, getD-set-other, set-getD, ext-getD}
 use Rattle.model.proofs.Bools.{lt-or-ge}
 use Rattle.lists.specs.Over.{Over, Holds, Same}
 
@@ -61,3 +61,11 @@ holds-of r g = record { room = omega (arith, r .len); at = λ s l. r .mid s (ome
 
 pub over-held : {f : ℕ → ℕ} {h : ℕ} {l : List ℕ} → Holds f h l → Over f 0 h l l
 over-held r = record { len = refl; low = λ s h. refl; mid = λ s h j. r .at s j; high = λ s h. refl }
+
+-- what a loop leaves is one list
+pub over-once : {f : ℕ → ℕ} {a b : ℕ} {x y z : List ℕ} → Over f a b x y → Over f a b x z → y ≡ z
+over-once {f} {a} {b} {x} {y} {z} p q = ext-getD 0 y z (p .len ∙ sym (q .len)) (λ s l.
+    ⊎-elim
+    (λ (h : s < a). p .low s h ∙ sym (q .low s h))
+    (λ (h : a ≤ s). ⊎-elim (λ (g : s < b). p .mid s h g ∙ sym (q .mid s h g)) (λ (g : b ≤ s). p .high s g ∙ sym (q .high s g)) (lt-or-ge s b))
+    (lt-or-ge s a))

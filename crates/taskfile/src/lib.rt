@@ -4,7 +4,6 @@ ghost use Prim.Native.Nat.{_≤_};
 ghost use Rattle.table.specs.Refusals.{inTurn};
 ghost use Rattle.taskfile.specs.Check.{inEntry, partRefusal, fileRefusal, numbers, checkFile};
 ghost use Rattle.taskfile.specs.Find.{tableHas, findRefusal, noTable, findOf};
-use entries;
 use table::Refusal;
 use table::Row;
 use table::Table;
