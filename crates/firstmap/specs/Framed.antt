@@ -1,4 +1,4 @@
--- What the functions that work out maps are given: a table in order, and a number of slots that is whole periods of each of its rows.
+-- What the functions that work out maps are given: a table in order, and a number of slots, at most 4,096, that is whole periods of each of its rows.
 use mathlib.Core.Path.{_≡_}
 use Prim.Native.Nat.{ℕ, _%_, _≤_, _<_}
 use Rattle.model.specs.Model.{Sound}
