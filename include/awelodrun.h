@@ -56,9 +56,31 @@ enum {
 /* The check of a table. answer: no, entry, row, frame. */
 void awelodrun_check(uint8_t m, uint8_t x, uint8_t count, const uint16_t *rows, size_t rows_len, uint32_t answer[4]);
 
-/* The check of a lent list of rows, T, C, D of each row in turn. It has a row for each three numbers of rows_len; what a
- * last row lacks is taken as 0. A list of no row, or of more than 32, is refused with 3. answer: no, entry, row, frame. */
-void awelodrun_check_list(uint8_t m, uint8_t x, const uint16_t *rows, size_t rows_len, uint32_t answer[4]);
+/* A row as it stands in a lent list: T, C and D. */
+struct awelodrun_row {
+    uint16_t period;
+    uint16_t execution;
+    uint16_t deadline;
+};
+
+/* What stands beside a lent list of rows: m and x. */
+struct awelodrun_beside {
+    uint8_t processors;
+    uint8_t depth;
+};
+
+/* What the check of a list answers. */
+struct awelodrun_answer {
+    uint32_t no;
+    uint32_t entry;
+    uint32_t row;
+    uint32_t frame;
+};
+
+/* The check of a lent list of rows, which are read where they stand. A list of no row, or of more than 32, is refused
+ * with 3. */
+struct awelodrun_answer
+awelodrun_check_list(struct awelodrun_beside beside, const struct awelodrun_row *rows, size_t rows_len);
 
 /* The judge of a table. answer: no, entry, row, t, work, supply, frame. The table is infeasible where t is not 0: t is
  * the least length at which more work is due than the slots supply. With no refusal and t 0 it is undecided.

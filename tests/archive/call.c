@@ -54,16 +54,35 @@ static void checks(void)
     are("check", (uint32_t[]){0, 0, 0, 12}, answer, 4);
     awelodrun_check(2, 1, 4, rows, LENGTH(rows), answer);
     are("check of a row that is not there", (uint32_t[]){4, 0, 3, 0}, answer, 4);
-    awelodrun_check_list(2, 1, rows, LENGTH(rows), answer);
-    are("check_list", (uint32_t[]){0, 0, 0, 12}, answer, 4);
-    awelodrun_check_list(2, 1, rows, 8, answer);
-    are("check_list of a part of a row", (uint32_t[]){5, 0, 2, 0}, answer, 4);
-    awelodrun_check_list(2, 1, rows, 0, answer);
-    are("check_list of no row", (uint32_t[]){3, 0, 0, 0}, answer, 4);
     awelodrun_file_check(file, LENGTH(file), answer);
     are("file_check", (uint32_t[]){0, 0, 0, 1}, answer, 4);
     awelodrun_file_check(file, LENGTH(file) - 1, answer);
     are("file_check of a cut file", (uint32_t[]){13, 0, 0, 0}, answer, 4);
+}
+
+static void list_is(const char *name, uint32_t no, uint32_t row, uint32_t frame, struct awelodrun_answer got)
+{
+    are(name, (uint32_t[]){no, 0, row, frame}, (uint32_t[]){got.no, got.entry, got.row, got.frame}, 4);
+}
+
+static void list_checks(void)
+{
+    static struct awelodrun_row list[40];
+    const struct awelodrun_beside beside = {2, 1};
+    for (size_t i = 0; i < LENGTH(list); i++)
+        list[i] = (struct awelodrun_row){4, 2, 3};
+    list[0] = (struct awelodrun_row){2, 1, 1};
+    list[1] = (struct awelodrun_row){3, 2, 2};
+    list_is("check_list", 0, 0, 12, awelodrun_check_list(beside, list, 3));
+    list_is("check_list of no row", 3, 0, 0, awelodrun_check_list(beside, list, 0));
+    list_is("check_list of 32 rows", 0, 0, 12, awelodrun_check_list(beside, list, 32));
+    list_is("check_list of 33 rows", 3, 0, 0, awelodrun_check_list(beside, list, 33));
+    list_is("check_list with m 0", 1, 0, 0, awelodrun_check_list((struct awelodrun_beside){0, 1}, list, 3));
+    list_is("check_list with x 9", 2, 0, 0, awelodrun_check_list((struct awelodrun_beside){2, 9}, list, 3));
+    list[2].deadline = 5;
+    list_is("check_list of a bad row", 5, 2, 0, awelodrun_check_list(beside, list, 3));
+    list[2] = (struct awelodrun_row){4096, 1, 1};
+    list_is("check_list of a long frame", 7, 2, 0, awelodrun_check_list(beside, list, 3));
 }
 
 static void judges(void)
@@ -130,6 +149,7 @@ static void files(void)
 int main(void)
 {
     checks();
+    list_checks();
     judges();
     edits();
     files();

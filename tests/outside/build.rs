@@ -1,4 +1,4 @@
-//! Links the static library of `capi` when the feature `library` is on.
+//! Links the static library of `awelodrun` when the feature `library` is on.
 
 use std::env;
 use std::path::{Path, PathBuf};
@@ -12,7 +12,7 @@ fn main() {
         Some(path) => PathBuf::from(path),
         None => {
             let package = env::var_os("CARGO_MANIFEST_DIR").expect("cargo gives the package's folder");
-            Path::new(&package).join("../../target/staticlib/libcapi.a")
+            Path::new(&package).join("../../target/staticlib/libawelodrun.a")
         }
     };
     println!("cargo:rerun-if-changed={}", archive.display());
@@ -20,7 +20,7 @@ fn main() {
     let name = archive.file_stem().expect("the archive has a name").to_string_lossy();
     let name = name.strip_prefix("lib").expect("the archive's name begins with lib");
     if !archive.exists() {
-        panic!("{} is missing: make it with `rt staticlib capi`", archive.display());
+        panic!("{} is missing: make it with `rt staticlib awelodrun`", archive.display());
     }
     println!("cargo:rustc-link-search=native={}", folder.display());
     println!("cargo:rustc-link-lib=static={name}");

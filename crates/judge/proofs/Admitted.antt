@@ -7,20 +7,22 @@ use native.Mathlib.Omega.{arith}
 use lib.Dec.{ltb}
 use borrow.Author.Tests.{ltb-false, ne-eqb}
 use Rattle.table.specs.declared.Table.{Table}
-use Rattle.table.specs.declared.Refusal.{Refusal}
+use Rattle.refusal.specs.declared.Refusal.{Refusal}
 use Rattle.table.specs.declared.Checked.the-variants.{Frame, Refused}
-use Rattle.table.specs.Check.{Numbers, numbers, none, refused, checkOf}
+use Rattle.table.specs.Check.{Numbers, numbers, refused, checkOf}
+use Rattle.refusal.specs.Refusal.{none}
 use Rattle.table.specs.Meaning.{Accepted}
 use Rattle.table.proofs.Accepted.{Rejected, outcome, rejected}
-use Rattle.judge.specs.Admit.{roomOf, admitOf, Admitted}
+use Rattle.judge.specs.Admit.{longEnough, admitOf}
+use Rattle.judge.specs.Passes.{Admitted}
 
 module _ (t : Table) (a b : ℕ) where
-  accepts : checkOf t .refusal ≡ none → admitOf t a b ≡ roomOf a b (checkOf t)
+  accepts : checkOf t .refusal ≡ none → admitOf t a b ≡ longEnough a b (checkOf t)
   unfolding admitOf
   accepts e = rw (ap (λ (r : Refusal). r .no) e)
 
-  pub admit-frame : (h : ℕ) → numbers (Frame h) ≡ checkOf t → roomOf a b (numbers (Frame h)) ≡ admitOf t a b
-  admit-frame h e = sym (accepts (sym (ap (λ (c : Numbers). c .refusal) e)) ∙ ap (roomOf a b) (sym e))
+  pub admit-frame : (h : ℕ) → numbers (Frame h) ≡ checkOf t → longEnough a b (numbers (Frame h)) ≡ admitOf t a b
+  admit-frame h e = sym (accepts (sym (ap (λ (c : Numbers). c .refusal) e)) ∙ ap (longEnough a b) (sym e))
 
   rejects : Rejected (checkOf t) → admitOf t a b ≡ checkOf t
   unfolding admitOf

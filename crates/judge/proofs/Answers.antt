@@ -8,19 +8,20 @@ use lib.Dec.{eqb}
 use lib.ListN.{length}
 use borrow.Author.Tests.{eqb-true, ne-eqb}
 use Rattle.model.specs.Depths.{available}
-use Rattle.lists.proofs.Tabled.{over-filled}
+use Rattle.basics.proofs.Tabled.{over-filled}
 use Rattle.table.specs.declared.Table.{Table}
-use Rattle.table.specs.declared.Refusal.{Refusal}
+use Rattle.refusal.specs.declared.Refusal.{Refusal}
 use Rattle.table.specs.declared.Checked.the-variants.{Frame, Refused as Rejects}
 use Rattle.table.specs.Check.{numbers as checkNumbers}
 use Rattle.table.specs.Meaning.{modelOf}
-use Rattle.deepen.specs.Step.{Reached}
-use Rattle.scan.specs.declared.Line.{Line}
-use Rattle.scan.specs.Lines.{noLine, lineOf}
+use Rattle.judge_deepen.specs.Reached.{Reached}
+use Rattle.judge_scan.specs.declared.Line.{Line}
+use Rattle.judge_scan.specs.Lines.{noLine, lineOf}
 use Rattle.judge.specs.declared.Verdict.the-variants.{Infeasible, Undecided, Refused}
 use Rattle.judge.specs.Admit.{admitOf}
 use Rattle.judge.specs.After.{mapAfter, pinsAfter}
-use Rattle.judge.specs.Judge.{given, numbers, infeasible, judgeOf, verdictOf, Judged, Lined}
+use Rattle.judge.specs.Judge.{given, numbers, infeasible, judgeOf, Judged}
+use Rattle.judge.specs.Passes.{verdictOf, Lined}
 use Rattle.judge.proofs.Admitted.{admitted, admit-rejected}
 use Rattle.judge.proofs.Lines.{line-none}
 

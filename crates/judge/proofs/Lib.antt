@@ -5,3 +5,5 @@ pub mod Answers
 pub mod Outcomes
 pub mod Determined
 pub mod Meaning
+pub mod Kept
+pub mod Past

@@ -9,7 +9,7 @@ use Rattle.model.specs.Model.{Model, Map}
 use Rattle.model.specs.Supply.{supply}
 use Rattle.model.specs.Work.{workDue}
 use Rattle.model.specs.Failing.{leastFailing}
-use Rattle.scan.specs.Lines.{noLine, lineOf}
+use Rattle.judge_scan.specs.Lines.{noLine, lineOf}
 
 module _ (M : Model) (A : Map) (h : ℕ) where
   pub line-t : lineOf M A h .t ≡ leastFailing M A h

@@ -9,42 +9,28 @@ use native.Mathlib.Omega.{arith}
 use lib.ListN.{length, getD}
 use borrow.Author.Tests.{eqb-false, not-true, ne-eqb}
 use Rattle.model.specs.Model.{Model, Map}
-use Rattle.model.specs.Depths.{available, pinnedAt}
+use Rattle.model.specs.Depths.{pinnedAt}
 use Rattle.model.specs.Supply.{supply}
 use Rattle.model.specs.Work.{workDue}
-use Rattle.model.specs.Failing.{leastFailing, Least}
+use Rattle.model.specs.Failing.{leastFailing}
 use Rattle.model.specs.Schedule.{Valid, Within}
 use Rattle.model.proofs.Better.{demand3}
 use Rattle.model.proofs.Soundness.{infeasible as model-infeasible}
 use Rattle.model.proofs.Least.{least-positive, least-exists}
-use Rattle.sets.specs.Word.{member}
+use Rattle.sets.specs.Word.{words}
 use Rattle.sets.proofs.Words.{member-word, word-none}
-use Rattle.lists.proofs.Tabled.{filled-at}
+use Rattle.basics.proofs.Tabled.{filled-at}
 use Rattle.table.specs.declared.Table.{Table}
-use Rattle.table.specs.declared.Refusal.{Refusal}
+use Rattle.refusal.specs.declared.Refusal.{Refusal}
 use Rattle.table.specs.Meaning.{modelOf}
 use Rattle.table.proofs.Accepted.{sound-model}
-use Rattle.deepen.specs.Step.{words}
-use Rattle.scan.specs.Lines.{lineOf}
+use Rattle.judge_scan.specs.Lines.{lineOf}
 use Rattle.judge.specs.declared.Verdict.{Verdict}
 use Rattle.judge.specs.After.{mapAfter, pinsAfter}
-use Rattle.judge.specs.Judge.{Numbers, given, numbers, infeasible, Judged}
+use Rattle.judge.specs.Judge.{Numbers, lineIn, given, numbers, infeasible, Judged}
+use Rattle.judge.specs.Meaning.{mapAt, Fails, Shown, InWords}
 use Rattle.judge.proofs.Lines.{line-t, line-some}
 use Rattle.judge.proofs.Outcomes.{Given, Withheld, judge-outcome}
-
--- what the map at the table's depth supplies
-abbrev pub depthMap : Table → Map
-depthMap t = available (modelOf t) (t .depth)
-
--- more work is due than supplied at some length of 1 to h
-abbrev pub Fails : Table → ℕ → Type 0
-Fails t h = (s : ℕ) × (1 ≤ s) × (s ≤ h) × (supply (modelOf t) (depthMap t) s < workDue (modelOf t) s)
-
--- the numbers that go with infeasible: the least failing length, its work and its supply
-pub record Shown (t : Table) (n : Numbers) : Type 0 where
-  pub least : Least (modelOf t) (depthMap t) (n .frame) (n .t)
-  pub work : n .work ≡ workDue (modelOf t) (n .t)
-  pub supply : n .supply ≡ supply (modelOf t) (depthMap t) (n .t)
 
 module _ (t : Table) (map pins map′ pins′ : List ℕ) (r : Verdict) (j : Judged t map pins map′ pins′ r) where
   abbrev M : Model
@@ -52,6 +38,9 @@ module _ (t : Table) (map pins map′ pins′ : List ℕ) (r : Verdict) (j : Jud
 
   abbrev H : ℕ
   H = numbers r .frame
+
+  abbrev A : Map
+  A = mapAt t (t .depth)
 
   abbrev On : ℕ → Type 0
   On h = Given t (length map) (length pins) h
@@ -73,32 +62,32 @@ module _ (t : Table) (map pins map′ pins′ : List ℕ) (r : Verdict) (j : Jud
   infeasible-given : infeasible r ≡ true → On H
   infeasible-given e = on-frame (λ q w. omega (arith, long e, ap (λ (n : Numbers). n .t) (j .answer ∙ w .answer)))
 
-  least-t : On H → numbers r .t ≡ leastFailing M (depthMap t) H
+  least-t : On H → numbers r .t ≡ leastFailing M A H
   least-t g = ap (λ (n : Numbers). n .t) (j .answer ∙ g .answer) ∙ line-t _ _ _
 
   -- "It gives the least such t, that work, that supply, and H"
-  pub infeasible-shown : infeasible r ≡ true → Shown t (numbers r)
+  pub infeasible-shown : infeasible r ≡ true → Shown t (t .depth) (numbers r .frame) (lineIn (numbers r))
   infeasible-shown e =
       let g = infeasible-given e in
-      let n : numbers r ≡ given (lineOf M (depthMap t) H) H = j .answer ∙ g .answer in
-      let et : numbers r .t ≡ leastFailing M (depthMap t) H = least-t g in
-      let some = line-some M (depthMap t) H (rw (ap (λ (k : Numbers). k .t) n) at (long e)) in
+      let n : numbers r ≡ given (lineOf M A H) H = j .answer ∙ g .answer in
+      let et : numbers r .t ≡ leastFailing M A H = least-t g in
+      let some = line-some M A H (rw (ap (λ (k : Numbers). k .t) n) at (long e)) in
       record {
-        least = rw et (least-positive M (depthMap t) H (rw et at (long e)));
+        least = rw et (least-positive M A H (rw et at (long e)));
         work = ap (λ (k : Numbers). k .work) n ∙ some .0 ∙ ap (workDue M) (sym et);
-        supply = ap (λ (k : Numbers). k .supply) n ∙ some .1 ∙ ap (supply M (depthMap t)) (sym et);
+        supply = ap (λ (k : Numbers). k .supply) n ∙ some .1 ∙ ap (supply M A) (sym et);
       }
 
   -- "Infeasible when for some t in 1 to H the work due is greater than the usable supply of slots 0 to t - 1"
-  pub infeasible-exactly : numbers r .refusal .no ≡ 0 → (infeasible r ≡ true) ↔ Fails t (numbers r .frame)
+  pub infeasible-exactly : numbers r .refusal .no ≡ 0 → (infeasible r ≡ true) ↔ Fails t (t .depth) (numbers r .frame)
   infeasible-exactly e = (there, back)
     where
-      there : infeasible r ≡ true → Fails t (numbers r .frame)
+      there : infeasible r ≡ true → Fails t (t .depth) (numbers r .frame)
       there i = let l = infeasible-shown i .least in (numbers r .t, l .from, l .to, l .here)
 
-      back : Fails t (numbers r .frame) → infeasible r ≡ true
+      back : Fails t (t .depth) (numbers r .frame) → infeasible r ≡ true
       back f =
-          let l = least-exists M (depthMap t) H (f .0) (f .1) (f .2) (f .3) in
+          let l = least-exists M A H (f .0) (f .1) (f .2) (f .3) in
           let some : 0 < numbers r .t = rw (least-t (verdict-given e)) (l .from) in
           j .case ∙ ap not (ne-eqb (numbers r .t) 0 (λ (z : numbers r .t ≡ 0). omega arith))
 
@@ -110,7 +99,7 @@ module _ (t : Table) (map pins map′ pins′ : List ℕ) (r : Verdict) (j : Jud
       model-infeasible (modelOf t) (sound-model t _ (g .admitted .accepted)) (numbers r .frame) (t .depth) (numbers r .t) (l .to) (l .here) S ok
 
   -- the words that the judge leaves
-  pub map-left : numbers r .refusal .no ≡ 0 → (s : ℕ) → s < numbers r .frame → getD map′ s 0 ≡ words (modelOf t) (depthMap t) s
+  pub map-left : numbers r .refusal .no ≡ 0 → (s : ℕ) → s < numbers r .frame → getD map′ s 0 ≡ words (modelOf t) A s
   unfolding mapAfter
   map-left e s l =
       let g = verdict-given e in
@@ -130,9 +119,9 @@ module _ (t : Table) (map pins map′ pins′ : List ℕ) (r : Verdict) (j : Jud
   -- where there is a valid schedule, there is one that in every slot runs only rows whose bit is set in the map that the judge leaves
   pub schedule-inside-map : numbers r .refusal .no ≡ 0 → (S : Map) → Valid (modelOf t) (numbers r .frame) S
       → (S′ : Map) × Valid (modelOf t) (numbers r .frame) S′
-      × ((s i : ℕ) → s < numbers r .frame → i < t .count → S′ s i ≡ true → member i (getD map′ s 0) ≡ true)
+      × InWords t (numbers r .frame) S′ map′
   unfolding Within
   schedule-inside-map e S ok =
       let g = verdict-given e in
       let p = demand3 (modelOf t) (sound-model t _ (g .admitted .accepted)) (numbers r .frame) S ok (t .depth) in
-      (p .0, p .1, λ s i l k q. rw (map-left e s l, member-word (t .count) i (depthMap t s) k) (p .2 s i l k q))
+      (p .0, p .1, λ s i l k q. rw (map-left e s l, member-word (t .count) i (A s) k) (p .2 s i l k q))

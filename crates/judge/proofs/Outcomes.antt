@@ -6,12 +6,13 @@ use native.Mathlib.Omega.{arith}
 use borrow.Author.Tests.{ne-eqb}
 use Rattle.model.specs.Depths.{available}
 use Rattle.table.specs.declared.Table.{Table}
-use Rattle.table.specs.declared.Refusal.{Refusal}
-use Rattle.table.specs.Check.{none}
+use Rattle.refusal.specs.declared.Refusal.{Refusal}
+use Rattle.refusal.specs.Refusal.{none}
 use Rattle.table.specs.Meaning.{modelOf}
 use Rattle.table.proofs.Accepted.{Rejected}
-use Rattle.scan.specs.Lines.{lineOf}
-use Rattle.judge.specs.Admit.{admitOf, Admitted}
+use Rattle.judge_scan.specs.Lines.{lineOf}
+use Rattle.judge.specs.Admit.{admitOf}
+use Rattle.judge.specs.Passes.{Admitted}
 use Rattle.judge.specs.Judge.{Numbers, given, withheld, judgeOf}
 use Rattle.judge.proofs.Admitted.{admit-outcome}
 

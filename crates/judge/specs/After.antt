@@ -5,11 +5,11 @@ use Prim.Native.Nat.{ℕ, _-_}
 use lib.Dec.{eqb}
 use lib.ListN.{length}
 use Rattle.model.specs.Depths.{available, pinnedAt}
-use Rattle.lists.specs.Filled.{filled}
+use Rattle.basics.specs.Filled.{filled}
 use Rattle.table.specs.declared.Table.{Table}
 use Rattle.table.specs.Check.{Numbers}
 use Rattle.table.specs.Meaning.{modelOf}
-use Rattle.deepen.specs.Step.{words}
+use Rattle.sets.specs.Word.{words}
 use Rattle.judge.specs.Admit.{admitOf}
 
 -- "Every refusal leaves all lent memory untouched"; else the first H words of the list are those of a rule, and "Words from H on are unchanged"

@@ -6,12 +6,11 @@ use Prim.Native.Nat.{ℕ}
 use lib.Dec.{eqb}
 use lib.ListN.{length}
 use Rattle.table.specs.declared.Table.{Table}
-use Rattle.table.specs.declared.Refusal.{Refusal}
-use Rattle.table.specs.Check.{none}
+use Rattle.refusal.specs.declared.Refusal.{Refusal}
+use Rattle.refusal.specs.Refusal.{none}
 use Rattle.table.specs.Meaning.{modelOf}
-use Rattle.deepen.specs.Step.{Reached}
-use Rattle.scan.specs.declared.Line.{Line}
-use Rattle.scan.specs.Lines.{lineAt, noLine}
+use Rattle.judge_scan.specs.declared.Line.{Line}
+use Rattle.judge_scan.specs.Lines.{lineAt, noLine}
 use Rattle.judge.specs.declared.Verdict.{Verdict}
 use Rattle.judge.specs.declared.Verdict.the-variants.{Infeasible, Undecided, Refused}
 use Rattle.judge.specs.Admit.{admitOf}
@@ -24,6 +23,10 @@ pub record Numbers : Type 0 where
   pub work : ℕ
   pub supply : ℕ
   pub frame : ℕ
+
+-- the length, work and supply among them
+abbrev pub lineIn : Numbers → Line
+lineIn n = record { t = n .t; work = n .work; supply = n .supply }
 
 -- the numbers of a map's line on the frame h
 abbrev pub given : Line → ℕ → Numbers
@@ -59,12 +62,3 @@ pub record Judged (t : Table) (map pins map′ pins′ : List ℕ) (r : Verdict)
   pub case : infeasible r ≡ not (eqb (numbers r .t) 0)
   pub map-after : map′ ≡ mapAfter t (t .depth) map pins
   pub pins-after : pins′ ≡ pinsAfter t (t .depth) map pins
-
--- what is worked out for an accepted table with the frame h: both lists, and the map's line
-pub record Lined (t : Table) (h : ℕ) (map pins map′ pins′ : List ℕ) (r : Line) : Type 0 where
-  pub reached : Reached (modelOf t) (t .depth) h map pins map′ pins′
-  pub line : r ≡ lineAt (modelOf t) (t .depth) h
-
--- the verdict of a line on the frame h
-abbrev pub verdictOf : Line → ℕ → Verdict
-verdictOf l h = cond (eqb (l .t) 0) (Undecided h) (Infeasible (l .t) (l .work) (l .supply) h)

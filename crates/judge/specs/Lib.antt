@@ -2,3 +2,5 @@
 pub mod Admit
 pub mod After
 pub mod Judge
+pub mod Meaning
+pub mod Passes

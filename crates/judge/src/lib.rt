@@ -2,11 +2,14 @@
 ghost use mathlib.Core.Path.{_≡_};
 ghost use lib.ListN.{length};
 ghost use Rattle.table.specs.Check.{numbers as checkNumbers, refused};
-ghost use Rattle.judge.specs.Admit.{roomOf, admitOf, Admitted};
-ghost use Rattle.judge.specs.Judge.{Judged, Lined, verdictOf};
-use scan::Line;
+ghost use Rattle.judge.specs.Admit.{longEnough, admitOf};
+ghost use Rattle.judge.specs.Judge.{Judged};
+ghost use Rattle.judge.specs.Passes.{Admitted, Lined, verdictOf};
+use basics::widths;
+use judge_scan::Line;
+use refusal::Refusal;
+use sets::Set;
 use table::Checked;
-use table::Refusal;
 use table::Table;
 
 // Infeasible with the least length that fails, its work and its supply; undecided; or refused.
@@ -26,27 +29,17 @@ pub enum Verdict {
 fn short() -> Checked
     ensures { λ r. ⌜ checkNumbers r ≡ refused 8 0 ⌝ }
 {
-    Checked::Refused(Refusal {
-        no: 8,
-        entry: 0,
-        row: 0,
-    })
-}
-
-fn size(x: u32) -> usize
-    ensures { λ r. ⌜ r ≡ x ⌝ }
-{
-    x as usize
+    table::refused(8, 0)
 }
 
 // The frame, or 8 where either list is shorter than it.
-fn room(h: u32, map: usize, pins: usize) -> Checked
-    ensures { λ r. ⌜ checkNumbers r ≡ roomOf map pins (checkNumbers (Checked.Frame h)) ⌝ }
+fn long_enough(h: u32, map: usize, pins: usize) -> Checked
+    ensures { λ r. ⌜ checkNumbers r ≡ longEnough map pins (checkNumbers (Checked.Frame h)) ⌝ }
 {
-    if map < size(h) {
+    if map < widths::size_of_word(h) {
         return short();
     }
-    if pins < size(h) {
+    if pins < widths::size_of_word(h) {
         return short();
     }
     Checked::Frame(h)
@@ -59,18 +52,18 @@ pub fn admit(t: Table, map: usize, pins: usize) -> Checked
     let c = table::check(t);
     match c {
         Checked::Refused(r) => Checked::Refused(r),
-        Checked::Frame(h) => room(h, map, pins),
+        Checked::Frame(h) => long_enough(h, map, pins),
     }
 }
 
 // Both lists at the table's depth, and the line of its map.
-fn line(t: Table, h: usize, map: &mut [u32], pins: &mut [u32]) -> Line
+fn line(t: Table, h: usize, map: &mut [Set], pins: &mut [Set]) -> Line
     requires { ⌜ Admitted t (length (now map)) (length (now pins)) h ⌝ }
     ensures { λ r. ⌜ Lined t h (now (map .entry)) (now (pins .entry)) (now (map .exit)) (now (pins .exit)) r ⌝ }
 {
-    firstmap::first_map(t, h, map);
-    deepen::deep(t, h, map, pins);
-    scan::scan(t, h, map)
+    judge_first::first_map(t, h, map);
+    judge_deepen::deep(t, h, map, pins);
+    judge_scan::scan(t, h, map)
 }
 
 fn verdict_of(l: Line, frame: u32) -> Verdict
@@ -88,14 +81,14 @@ fn verdict_of(l: Line, frame: u32) -> Verdict
 }
 
 // The verdict on a table, with the sets of its depth in the lists that are lent for them.
-pub fn judge(t: Table, map: &mut [u32], pins: &mut [u32]) -> Verdict
+pub fn judge(t: Table, map: &mut [Set], pins: &mut [Set]) -> Verdict
     ensures { λ r. ⌜ Judged t (now (map .entry)) (now (pins .entry)) (now (map .exit)) (now (pins .exit)) r ⌝ }
 {
     let c = admit(t, map.len(), pins.len());
     match c {
         Checked::Refused(r) => Verdict::Refused(r),
         Checked::Frame(h) => {
-            let l = line(t, size(h), map, pins);
+            let l = line(t, widths::size_of_word(h), map, pins);
             verdict_of(l, h)
         }
     }

@@ -7,14 +7,14 @@ use native.Mathlib.Nat.{le-refl, le-trans, le-of-eq, lt-of-lt-of-le, not-le-of-l
 use lib.Dec.{leb, ltb}
 use lib.Arith.{digits-div, digits-mod}
 use borrow.Author.Tests.{ltb-true, leb-true, leb-false}
-use Rattle.model.specs.Sum.{sum, bit}
+use Rattle.basics.specs.Sum.{sum, bit}
 use Rattle.model.specs.Model.{Model, Sound, Map}
 use Rattle.model.specs.Windows.{window}
 use Rattle.model.specs.Pins.{size, pin, pins, pinned}
 use Rattle.model.specs.Depths.{full, next, available}
 use Rattle.model.specs.Schedule.{Valid, Within}
-use Rattle.model.proofs.Bools.{and-left, and-true, or-left, or-right, cond-cases, test}
-use Rattle.model.proofs.Sums.{sum-eq}
+use Rattle.basics.proofs.Bools.{and-left, and-true, or-left, or-right, cond-cases, test}
+use Rattle.basics.proofs.Sums.{sum-eq}
 use Rattle.model.proofs.Pins.{size-le, pinned-in, pinned-room, pins-sum, full-pins}
 
 -- the pins for the jobs that are full, S for the others

@@ -1,26 +1,16 @@
--- Small models, computed: a counterexample to document 000, and one that has a valid schedule.
-use mathlib.Core.Path.{_≡_, refl}
-use mathlib.Core.Bool.{Bool, true, false}
+-- Models that have a valid schedule, so that the definition is seen not to be empty.
+use mathlib.Core.Path.{refl}
+use mathlib.Core.Bool.{not}
 use mathlib.Core.List.{List, [], _∷_}
-use Prim.Native.Nat.{ℕ, _%_}
+use Prim.Native.Nat.{_+_, _%_}
 use lib.Dec.{eqb}
-use Rattle.model.specs.Sum.{sum, all}
+use Rattle.basics.specs.Sum.{sum, all}
 use Rattle.model.specs.Model.{Model, Map}
 use Rattle.model.specs.Windows.{window}
-use Rattle.model.specs.Pins.{size, pin, pins, pinned}
-use Rattle.model.specs.Depths.{full, next, available, pinnedAt}
+use Rattle.model.specs.Pins.{size}
 use Rattle.model.specs.Schedule.{Valid}
 use Rattle.model.specs.Tests.{sequential, sound, valid}
 use Rattle.model.proofs.Tests.{sound-ok, valid-ok}
-
--- "with one processor and rows (5,2,4) and (4,1,3)"
-abbrev two : Model
-two = sequential 1 (5 ∷ 4 ∷ []) (2 ∷ 1 ∷ []) (4 ∷ 3 ∷ [])
-
--- "the first row's job released at 5 is pinned in slot 7 at depth 1, but in slots 5 and 6, and not in 7, at depth 2": pinned sets may shrink
-pub pins-shrink : (pinnedAt two 1 7 0 ≡ true) × (pinnedAt two 2 5 0 ≡ true) × (pinnedAt two 2 6 0 ≡ true) × (pinnedAt two 2 7 0 ≡ false)
-unfolding sum window size pin pins pinned full next available pinnedAt
-pins-shrink = (refl, refl, refl, refl)
 
 -- one row (4,1,3) on one processor, run in the third slot of each window
 abbrev one : Model
@@ -29,3 +19,14 @@ one = sequential 1 (4 ∷ []) (1 ∷ []) (3 ∷ [])
 pub has-schedule : Valid one 4 (λ t i. eqb (t % 4) 2)
 unfolding all sound valid sum window size
 has-schedule = valid-ok one (sound-ok one refl) 4 (λ t i. eqb (t % 4) 2) refl
+
+-- three rows (3,2,3) on two processors: in each slot all run but one, and the first row's job is interrupted in slot 1
+abbrev three : Model
+three = sequential 2 (3 ∷ 3 ∷ 3 ∷ []) (2 ∷ 2 ∷ 2 ∷ []) (3 ∷ 3 ∷ 3 ∷ [])
+
+abbrev pub turns : Map
+turns t i = not (eqb i ((t + 2) % 3))
+
+pub has-interrupted : Valid three 3 turns
+unfolding all sound valid sum window size
+has-interrupted = valid-ok three (sound-ok three refl) 3 turns refl

@@ -8,14 +8,14 @@ use native.Mathlib.Omega.{arith}
 use native.Mathlib.Numerals.{add-one}
 use lib.Dec.{leb, ltb}
 use borrow.Author.Tests.{leb-true, leb-false}
-use Rattle.model.specs.Sum.{sum, bit}
+use Rattle.basics.specs.Sum.{sum, bit}
 use Rattle.model.specs.Model.{Model, Sound, Frame, Map}
 use Rattle.model.specs.Windows.{window}
 use Rattle.model.specs.Pins.{size, pin, pins, pinned}
 use Rattle.model.specs.Depths.{full, next, available}
 use Rattle.model.specs.Supply.{supply, usable}
 use Rattle.model.specs.Work.{jobsDue, workDue}
-use Rattle.model.proofs.Sums.{sum-eq, sum-add, sum-cut}
+use Rattle.basics.proofs.Sums.{sum-eq, sum-add, sum-cut}
 
 -- a count that a frame raises by the same, wherever it starts
 pub frames : (f : ℕ → ℕ) (H : ℕ) → ((r : ℕ) → f (H + r) ≡ f H + f r) → (q r : ℕ) → f (q * H + r) ≡ q * f H + f r

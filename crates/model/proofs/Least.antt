@@ -11,7 +11,7 @@ use Rattle.model.specs.Model.{Model, Map}
 use Rattle.model.specs.Supply.{supply}
 use Rattle.model.specs.Work.{workDue}
 use Rattle.model.specs.Failing.{fails, leastFailing, Least}
-use Rattle.model.proofs.Bools.{lt-or-ge}
+use Rattle.basics.proofs.Bools.{lt-or-ge}
 
 -- no length of 1 to H fails
 abbrev pub Never : Model → Map → ℕ → Type 0

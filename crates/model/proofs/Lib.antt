@@ -1,6 +1,5 @@
 -- The theorems about the papers' definitions.
-pub mod Sums
-pub mod Bools
+pub mod AtHand
 pub mod Pins
 pub mod Supply
 pub mod Better
@@ -9,6 +8,6 @@ pub mod Shrink
 pub mod Frames
 pub mod Stop
 pub mod Least
+pub mod Past
 pub mod Tests
-pub mod Determined
 pub mod Examples

@@ -7,14 +7,14 @@ use native.Mathlib.Omega.{arith}
 use lib.Dec.{leb, ltb}
 use lib.Arith.{digits-div, digits-mod}
 use borrow.Author.Tests.{ltb-true, leb-true}
-use Rattle.model.specs.Sum.{sum, bit}
+use Rattle.basics.specs.Sum.{sum, bit}
 use Rattle.model.specs.Model.{Model, Sound, Map}
 use Rattle.model.specs.Windows.{window}
 use Rattle.model.specs.Pins.{size, pin, pins, pinned}
 use Rattle.model.specs.Depths.{full, next, available}
 use Rattle.model.specs.Schedule.{Within}
-use Rattle.model.proofs.Bools.{and-left, and-right}
-use Rattle.model.proofs.Sums.{bit-le, sum-le}
+use Rattle.basics.proofs.Bools.{and-left, and-right}
+use Rattle.basics.proofs.Sums.{bit-le, sum-le}
 
 pub size-le : (M : Model) (A B : Map) (t : ℕ) → ((i : ℕ) → i < M .rows → A t i ≡ true → B t i ≡ true) → size M A t ≤ size M B t
 unfolding size

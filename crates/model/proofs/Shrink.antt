@@ -8,14 +8,14 @@ use native.Mathlib.Decide.{le-ind}
 use lib.Dec.{leb, ltb}
 use lib.Arith.{digits-div, digits-mod}
 use borrow.Author.Tests.{lt-ltb, le-leb, not-true}
-use Rattle.model.specs.Sum.{sum, bit}
+use Rattle.basics.specs.Sum.{sum, bit}
 use Rattle.model.specs.Model.{Model, Sound, Map}
 use Rattle.model.specs.Windows.{window}
 use Rattle.model.specs.Pins.{size, pin, pins, pinned}
 use Rattle.model.specs.Depths.{full, next, available, pinnedAt}
 use Rattle.model.specs.Supply.{supply, usable}
-use Rattle.model.proofs.Bools.{and-left, and-right, and-true, or-cases, or-left, or-right, test, same, clash}
-use Rattle.model.proofs.Sums.{sum-le}
+use Rattle.basics.proofs.Bools.{and-left, and-right, and-true, or-cases, or-left, or-right, test, same, clash}
+use Rattle.basics.proofs.Sums.{sum-le}
 use Rattle.model.proofs.Pins.{size-le, pin-in, pin-room, pin-wants, pinned-in, pinned-slot}
 use Rattle.model.proofs.Better.{next-window}
 

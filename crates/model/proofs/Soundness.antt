@@ -7,14 +7,14 @@ use native.Mathlib.Omega.{arith}
 use native.Mathlib.Numerals.{add-one}
 use lib.Dec.{leb}
 use borrow.Author.Tests.{leb-true}
-use Rattle.model.specs.Sum.{sum, bit}
+use Rattle.basics.specs.Sum.{sum, bit}
 use Rattle.model.specs.Model.{Model, Sound, Map}
 use Rattle.model.specs.Pins.{size}
 use Rattle.model.specs.Depths.{available}
 use Rattle.model.specs.Supply.{supply, usable}
 use Rattle.model.specs.Work.{jobsDue, workDue}
 use Rattle.model.specs.Schedule.{Valid, Within}
-use Rattle.model.proofs.Sums.{sum-le, sum-eq, sum-cut, sum-longer, sum-mul, sum-swap}
+use Rattle.basics.proofs.Sums.{sum-le, sum-eq, sum-cut, sum-longer, sum-mul, sum-swap}
 use Rattle.model.proofs.Pins.{size-le}
 use Rattle.model.proofs.Better.{demand3}
 

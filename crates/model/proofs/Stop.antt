@@ -5,13 +5,13 @@ use Prim.Native.Nat.{ℕ, zero, suc, _+_, _-_, _*_, _/_, _%_, _≤_, _<_, min}
 use native.Mathlib.Nat.{div-add-mod', div-lt-iff-lt-mul, mul-le-mul-right, suc-mul, mod-lt, add-zero, add-suc, le-of-lt, lt-of-lt-of-le}
 use native.Mathlib.Omega.{arith}
 use lib.Dec.{leb, ltb}
-use Rattle.model.specs.Sum.{sum, bit}
+use Rattle.basics.specs.Sum.{sum, bit}
 use Rattle.model.specs.Model.{Model, Sound, Map}
 use Rattle.model.specs.Windows.{window}
 use Rattle.model.specs.Pins.{size, pin, pins, pinned}
 use Rattle.model.specs.Depths.{full, next, available}
 use Rattle.model.specs.Supply.{usable, supply}
-use Rattle.model.proofs.Sums.{sum-eq}
+use Rattle.basics.proofs.Sums.{sum-eq}
 
 -- the whole period of a slot of the frame lies in the frame
 pub frame-room : (t s h : ℕ) → 0 < t → s < h → h % t ≡ 0 → s / t * t + t ≤ h

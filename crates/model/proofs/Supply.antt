@@ -3,11 +3,11 @@ use mathlib.Core.Path.{_≡_, sym, _∙_}
 use Prim.Native.Nat.{ℕ, _+_, _*_, _-_, _≤_, _<_, min}
 use native.Mathlib.Nat.{min-le-left, mul-comm}
 use native.Mathlib.Omega.{arith}
-use Rattle.model.specs.Sum.{sum}
+use Rattle.basics.specs.Sum.{sum}
 use Rattle.model.specs.Model.{Model, Map}
 use Rattle.model.specs.Supply.{usable, unusable, supply}
 use Rattle.model.specs.Pins.{size}
-use Rattle.model.proofs.Sums.{sum-eq, sum-add, sum-same}
+use Rattle.basics.proofs.Sums.{sum-eq, sum-add, sum-same}
 
 slot : (M : Model) (A : Map) (t : ℕ) → usable M A t + unusable M A t ≡ M .capacity t
 unfolding usable unusable

@@ -6,22 +6,14 @@ use Prim.Native.Nat.{ℕ, zero, suc, _+_, _*_, _≤_, _<_}
 use native.Mathlib.Nat.{le-of-suc-le-suc, not-suc-le-zero, eq-or-lt-of-le, lt-of-le-of-lt, le-mul-of-pos-right, le-trans}
 use lib.Dec.{leb, ltb, eqb}
 use borrow.Author.Tests.{leb-true, eqb-true, lt-ltb}
-use Rattle.model.specs.Sum.{sum, bit, all}
+use Rattle.basics.specs.Sum.{sum, bit, all}
 use Rattle.model.specs.Model.{Model, Sound, Map}
 use Rattle.model.specs.Windows.{window}
 use Rattle.model.specs.Pins.{size}
 use Rattle.model.specs.Schedule.{Valid}
 use Rattle.model.specs.Tests.{sound, valid, insideOk, runsOk, fitsOk}
-use Rattle.model.proofs.Bools.{and-left, and-right}
-
-pub all-at : (n : ℕ) (f : ℕ → Bool) → all n f ≡ true → (i : ℕ) → i < n → f i ≡ true
-unfolding all
-all-at zero f e i l = absurd (not-suc-le-zero l)
-all-at (suc n) f e i l = go (all-at n f (and-left (all n f) _ e) i) (eq-or-lt-of-le (le-of-suc-le-suc l))
-  where
-    go : (i < n → f i ≡ true) → (i ≡ n) ⊎ (i < n) → f i ≡ true
-    go h (inl p) = rw p (and-right (all n f) _ e)
-    go h (inr m) = h m
+use Rattle.basics.proofs.Bools.{and-left, and-right}
+use Rattle.basics.proofs.Sums.{all-at}
 
 pub sound-ok : (M : Model) → sound M ≡ true → Sound M
 unfolding sound

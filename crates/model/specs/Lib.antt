@@ -1,5 +1,4 @@
 -- The papers' definitions as mathematics: they know nothing of files, words or machine integers.
-pub mod Sum
 pub mod Model
 pub mod Windows
 pub mod Pins

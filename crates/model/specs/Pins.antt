@@ -2,7 +2,7 @@
 use mathlib.Core.Bool.{Bool, _&&_}
 use Prim.Native.Nat.{ℕ, zero, suc, _+_, _*_, _%_}
 use lib.Dec.{leb, ltb}
-use Rattle.model.specs.Sum.{sum, bit}
+use Rattle.basics.specs.Sum.{sum, bit}
 use Rattle.model.specs.Model.{Model, Map}
 use Rattle.model.specs.Windows.{jobAt}
 

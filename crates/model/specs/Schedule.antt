@@ -2,7 +2,7 @@
 use mathlib.Core.Path.{_≡_}
 use mathlib.Core.Bool.{Bool, true}
 use Prim.Native.Nat.{ℕ, _+_, _*_, _≤_, _<_}
-use Rattle.model.specs.Sum.{sum, bit}
+use Rattle.basics.specs.Sum.{sum, bit}
 use Rattle.model.specs.Model.{Model, Map}
 use Rattle.model.specs.Windows.{window}
 use Rattle.model.specs.Pins.{size}

@@ -1,6 +1,6 @@
 -- What the slots offer.
 use Prim.Native.Nat.{ℕ, _-_, min}
-use Rattle.model.specs.Sum.{sum}
+use Rattle.basics.specs.Sum.{sum}
 use Rattle.model.specs.Model.{Model, Map}
 use Rattle.model.specs.Pins.{size}
 

@@ -1,10 +1,10 @@
--- The same as tests that compute: a sound model, a valid schedule; and a model from three lists.
+-- For the proofs alone: the same as tests that compute, a sound model and a valid schedule; and a model from three lists.
 use mathlib.Core.Bool.{Bool, true, false, not, _&&_, _||_}
 use mathlib.Core.List.{List}
 use Prim.Native.Nat.{ℕ, _+_, _*_}
 use lib.Dec.{leb, ltb, eqb}
 use lib.ListN.{length, getD}
-use Rattle.model.specs.Sum.{sum, bit, all}
+use Rattle.basics.specs.Sum.{sum, bit, all}
 use Rattle.model.specs.Model.{Model, Map}
 use Rattle.model.specs.Windows.{window}
 use Rattle.model.specs.Pins.{size}

@@ -2,7 +2,7 @@
 use mathlib.Core.Bool.{cond}
 use Prim.Native.Nat.{ℕ, _+_, _*_, _-_, _/_}
 use lib.Dec.{leb}
-use Rattle.model.specs.Sum.{sum}
+use Rattle.basics.specs.Sum.{sum}
 use Rattle.model.specs.Model.{Model}
 
 -- "floor((t - D)/T) + 1, where the floor is -1 for t below D": how many jobs of row i are due in t slots

@@ -5,7 +5,7 @@ use Prim.Native.Nat.{ℕ, _+_, _-_, _*_, _/_, _%_, _^_, _<_}
 use native.Mathlib.Omega.{arith}
 use lib.Bits.{bitAnd, and-mask, and-high}
 use lib.Pow.{pow-add, shl-exact}
-use Rattle.model.specs.Sum.{bit}
+use Rattle.basics.specs.Sum.{bit}
 use Rattle.sets.specs.Word.{member, unset, put}
 use Rattle.sets.proofs.Words.{bit-member, put-false}
 

@@ -9,7 +9,7 @@ use lib.Dec.{eqb}
 use borrow.Author.Tests.{eq-eqb, ne-eqb}
 use lib.Pow.{pow-pos, pow-add, pow-mono, high, field}
 use lib.Count.{ones, ones-cat}
-use Rattle.model.specs.Sum.{sum, bit}
+use Rattle.basics.specs.Sum.{sum, bit}
 use Rattle.sets.specs.Word.{word, member, unset, put}
 
 bit-lt : (b : Bool) (n w : ℕ) → w < 2 ^ n → bit b * 2 ^ n + w < 2 ^ suc n

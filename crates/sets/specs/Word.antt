@@ -1,9 +1,14 @@
--- "Each slot's set of rows is one 32-bit word, bit i for row i, and the size of a set is its count of ones." Nothing here knows the width.
+-- "Each slot's set of rows is one 32-bit word, bit i for row i, and the size of a set is its count of ones."
 use mathlib.Core.Bool.{Bool, true, false, cond}
 use Prim.Native.Nat.{ℕ, zero, suc, _+_, _-_, _*_, _/_, _%_, _^_}
 use lib.Count.{ones}
 use lib.Dec.{leb, ltb, eqb}
-use Rattle.model.specs.Sum.{bit}
+use Rattle.basics.specs.Sum.{bit}
+use Rattle.model.specs.Model.{Model, Map}
+
+-- how many rows a set can have
+abbrev pub width : ℕ
+width = 32
 
 -- the word of the rows below n that pass the test p
 unfoldable pub word : ℕ → (ℕ → Bool) → ℕ
@@ -29,3 +34,7 @@ adding W i w = cond (ltb i W) (put i true w) w
 -- w where its size is at most m, else the empty set
 unfoldable pub upTo : ℕ → ℕ → ℕ
 upTo m w = cond (leb (ones w) m) w 0
+
+-- the words of a map
+abbrev pub words : Model → Map → ℕ → ℕ
+words M A s = word (M .rows) (A s)

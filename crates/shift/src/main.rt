@@ -2,8 +2,10 @@
 ghost use Prim.Native.Nat.{_-_, _≤_};
 ghost use lib.ListN.{length};
 ghost use Rattle.shift.specs.Input.{countOf};
+use file_entries::limits::BYTES;
 use libc::STDIN_FILENO;
 use libc::STDOUT_FILENO;
+use text_shift::TEXT;
 
 // How many bytes were read, or that reading failed.
 enum Input {
@@ -44,10 +46,11 @@ fn read_file(file: &mut [u8]) -> Input
 
 // Writes the text of a file. The two lists are used again for each table.
 fn write_text(file: &[u8]) {
+    // "two lists as 4,096 zero words each"
     let mut map = [0u32; 4096];
     let mut pins = [0u32; 4096];
-    let mut text = [0u8; 4096];
-    let n = shifttext::shift_text(file, &mut map, &mut pins, &mut text);
+    let mut text = [0u8; TEXT];
+    let n = text_shift::shift_text(file, &mut map, &mut pins, &mut text);
     if !io::write_all(STDOUT_FILENO, &text[..n]) {
         os::fail(b"standard output");
     }
@@ -56,7 +59,7 @@ fn write_text(file: &[u8]) {
 // The buffer has one byte more than a file may have, so that a file that is too long is seen to be.
 // Where reading fails there is no verdict.
 fn main() {
-    let mut file = [0u8; 65536];
+    let mut file = [0u8; BYTES + 1];
     let input = read_file(&mut file);
     match input {
         Input::Bytes(n) => write_text(&file[..n]),

@@ -12,14 +12,21 @@ use Rattle.table.specs.declared.Row.{Row}
 use Rattle.table.specs.declared.Table.{Table}
 use Rattle.table.specs.declared.Checked.{Checked}
 use Rattle.table.specs.declared.Checked.the-variants.{Frame as Whole, Refused}
-use Rattle.table.specs.Least.{least}
+use Rattle.basics.specs.Least.{least}
 use Rattle.table.specs.Frame.{frameOf, overAt}
-use Rattle.table.specs.Rows.{rowAt}
-use Rattle.table.specs.Check.{Numbers, numbers, none, refused, inside, rowRefusal, faulty, checkFrame, checkEach, checkRows, checkOf}
+use Rattle.table.specs.Rows.{rowAt, besideOf}
+use Rattle.table.specs.Check.{Numbers, numbers, refused, rowRefusal, faulty, checkFrame, checkEach, checkRows, checkOf}
+use Rattle.refusal.specs.Refusal.{none}
+use Rattle.basics.specs.Range.{inside}
 use Rattle.table.specs.Meaning.{modelOf, Accepted}
-use Rattle.table.proofs.Least.{least-below, least-here}
+use Rattle.basics.proofs.Least.{least-below, least-here}
 use Rattle.table.proofs.Frame.{frame-pos, frame-dvd, frame-least}
-use Rattle.table.proofs.Ranges.{inside-true, InOrder, rows-in-order}
+use Rattle.table.proofs.Ranges.{InOrder, rows-in-order}
+use Rattle.basics.proofs.Range.{inside-true}
+use Rattle.table.specs.Limits.{mostProcessors, mostDepths, mostRows, mostSlots}
+use Rattle.table.specs.declared.Beside.{Beside}
+use Rattle.refusal.specs.declared.Refusal.{Refusal}
+use Rattle.basics.proofs.Range.{inside-true}
 
 -- a refusal: it has a number, and no frame
 pub record Rejected (a : Numbers) : Type 0 where
@@ -34,22 +41,22 @@ faulty-number : (r : Row) → faulty r ≡ true → 0 < rowRefusal r
 unfolding faulty
 faulty-number r e = pos-of-ne-zero (eqb-false _ _ (not-true _ e))
 
--- n rows in order whose multiple stays at most 4,096
+-- n rows in order whose multiple stays at most the longest frame
 pub record Framed (n : ℕ) (row : ℕ → Row) (a : Numbers) : Type 0 where
   pub fine : a .refusal ≡ none
   pub order : (i : ℕ) → i < n → InOrder (row i)
   pub frame : a .frame ≡ frameOf (λ i. row i .period) n
   pub frame-low : 1 ≤ a .frame
-  pub frame-high : a .frame ≤ 4096
+  pub frame-high : a .frame ≤ mostSlots
 
 module _ (n : ℕ) (row : ℕ → Row) where
-  small : 0 < n → n ≤ overAt (λ i. row i .period) n → frameOf (λ i. row i .period) n ≤ 4096
+  small : 0 < n → n ≤ overAt (λ i. row i .period) n → frameOf (λ i. row i .period) n ≤ mostSlots
   unfolding overAt
   small l g = go n l g
     where
-      go : (k : ℕ) → 0 < k → k ≤ least (λ i. ltb 4096 (frameOf (λ i. row i .period) (suc i))) k → frameOf (λ i. row i .period) k ≤ 4096
+      go : (k : ℕ) → 0 < k → k ≤ least (λ i. ltb mostSlots (frameOf (λ i. row i .period) (suc i))) k → frameOf (λ i. row i .period) k ≤ mostSlots
       go zero l g = absurd (omega arith)
-      go (suc k) l g = ltb-false _ _ (least-below (λ i. ltb 4096 (frameOf (λ i. row i .period) (suc i))) (suc k) k (omega arith))
+      go (suc k) l g = ltb-false _ _ (least-below (λ i. ltb mostSlots (frameOf (λ i. row i .period) (suc i))) (suc k) k (omega arith))
 
   frame-outcome : 0 < n → ((i : ℕ) → i < n → InOrder (row i)) → Framed n row (checkFrame n row) ⊎ Rejected (checkFrame n row)
   unfolding checkFrame
@@ -78,18 +85,18 @@ module _ (n : ℕ) (row : ℕ → Row) where
       go false e = frame-outcome l (rows-in-order n row (ltb-false _ _ e))
 
 -- m, x and the count in their ranges, and the rows as above
-pub record Fine (m x n : ℕ) (row : ℕ → Row) (a : Numbers) : Type 0 where
-  pub m-range : (1 ≤ m) × (m ≤ 16)
-  pub x-range : (1 ≤ x) × (x ≤ 8)
-  pub count-range : (1 ≤ n) × (n ≤ 32)
+pub record Fine (b : Beside) (n : ℕ) (row : ℕ → Row) (a : Numbers) : Type 0 where
+  pub m-range : (1 ≤ b .processors) × (b .processors ≤ mostProcessors)
+  pub x-range : (1 ≤ b .depth) × (b .depth ≤ mostDepths)
+  pub count-range : (1 ≤ n) × (n ≤ mostRows)
   pub rows : Framed n row a
 
-pub rows-outcome : (m x n : ℕ) (row : ℕ → Row) → Fine m x n row (checkRows m x n row) ⊎ Rejected (checkRows m x n row)
+pub rows-outcome : (b : Beside) (n : ℕ) (row : ℕ → Row) → Fine b n row (checkRows b n row) ⊎ Rejected (checkRows b n row)
 unfolding checkRows
-rows-outcome m x n row = go (inside 1 m 16) (inside 1 x 8) (inside 1 n 32) refl refl refl
+rows-outcome b n row = go (inside 1 (b .processors) mostProcessors) (inside 1 (b .depth) mostDepths) (inside 1 n mostRows) refl refl refl
   where
-    go : (p q r : Bool) → inside 1 m 16 ≡ p → inside 1 x 8 ≡ q → inside 1 n 32 ≡ r
-        → let a = cond p (cond q (cond r (checkEach n row) (refused 3 0)) (refused 2 0)) (refused 1 0) in Fine m x n row a ⊎ Rejected a
+    go : (p q r : Bool) → inside 1 (b .processors) mostProcessors ≡ p → inside 1 (b .depth) mostDepths ≡ q → inside 1 n mostRows ≡ r
+        → let a = cond p (cond q (cond r (checkEach n row) (refused 3 0)) (refused 2 0)) (refused 1 0) in Fine b n row a ⊎ Rejected a
     go true true true ep eq er =
         let c = inside-true _ _ _ er in
         ⊎-elim (λ f. inl (record { m-range = inside-true _ _ _ ep; x-range = inside-true _ _ _ eq; count-range = c; rows = f })) inr (each-outcome n row (c .0))
@@ -100,9 +107,9 @@ rows-outcome m x n row = go (inside 1 m 16) (inside 1 x 8) (inside 1 n 32) refl 
 -- every table is accepted with a frame, or refused
 pub outcome : (t : Table) → (Accepted t (checkOf t .frame) × (checkOf t .refusal ≡ none)) ⊎ Rejected (checkOf t)
 unfolding checkOf
-outcome t = ⊎-elim (λ f. inl (fine f, f .rows .fine)) inr (rows-outcome (t .processors) (t .depth) (t .count) (rowAt t))
+outcome t = ⊎-elim (λ f. inl (fine f, f .rows .fine)) inr (rows-outcome (besideOf t) (t .count) (rowAt t))
   where
-    fine : Fine (t .processors) (t .depth) (t .count) (rowAt t) (checkOf t) → Accepted t (checkOf t .frame)
+    fine : Fine (besideOf t) (t .count) (rowAt t) (checkOf t) → Accepted t (checkOf t .frame)
     fine f = record {
       m-low = f .m-range .0;
       m-high = f .m-range .1;
@@ -127,7 +134,7 @@ pub accepted-frame : (t : Table) (h : ℕ) → numbers (Whole h) ≡ checkOf t �
 accepted-frame t h e = rw (ap (λ (a : Numbers). a .frame) e) (accepted t (sym (ap (λ (a : Numbers). a .refusal .no) e)))
 
 -- an answer with a refusal in it: the table has that refusal, and its number is not 0
-pub rejected : (t : Table) (r : Rattle.table.specs.declared.Refusal.Refusal) → numbers (Refused r) ≡ checkOf t → Rejected (checkOf t)
+pub rejected : (t : Table) (r : Refusal) → numbers (Refused r) ≡ checkOf t → Rejected (checkOf t)
 rejected t r e = ⊎-elim (λ f. absurd (omega (arith, f .0 .frame-low, ap (λ (a : Numbers). a .frame) e))) (λ q. q) (outcome t)
 
 -- the model of an accepted table is sound, and its frame is a frame: every period divides it

@@ -1,11 +1,10 @@
 -- The theorems about tables.
 pub mod Divisor
-pub mod Least
 pub mod Frame
 pub mod Steps
 pub mod Ranges
+pub mod SoFar
 pub mod Accepted
 pub mod Past
 pub mod Determined
 pub mod RowsBy
-pub mod Refusals

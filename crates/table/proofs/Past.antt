@@ -8,22 +8,16 @@ use lib.Dec.{ltb}
 use borrow.Author.Tests.{ltb-true}
 use Rattle.table.specs.declared.Row.{Row}
 use Rattle.table.specs.declared.Table.{Table}
+use Rattle.table.specs.declared.Beside.{Beside}
+use Rattle.table.specs.Limits.{mostSlots}
 use Rattle.table.specs.declared.Checked.the-variants.{Frame}
 use Rattle.table.specs.Divisor.{multiple}
-use Rattle.table.specs.Least.{leastFrom, least}
+use Rattle.basics.specs.Least.{least}
+use Rattle.basics.proofs.Least.{least-ext}
 use Rattle.table.specs.Frame.{frameOf, overAt}
-use Rattle.table.specs.Rows.{rowAt}
-use Rattle.table.specs.Check.{Numbers, numbers, refused, inside, rowRefusal, faulty, checkFrame, checkEach, checkRows, checkOf}
-
-from-ext : (p q : ℕ → Bool) (i k : ℕ) → ((j : ℕ) → j < i + k → p j ≡ q j) → leastFrom p i k ≡ leastFrom q i k
-unfolding leastFrom
-from-ext p q i zero f = refl
-from-ext p q i (suc k) f =
-    ap₂ (λ (b : Bool) (r : ℕ). cond b i r) (f i (omega arith)) (from-ext p q (suc i) k (λ j h. f j (omega arith)))
-
-pub least-ext : (n : ℕ) {p q : ℕ → Bool} → ((j : ℕ) → j < n → p j ≡ q j) → least p n ≡ least q n
-unfolding least
-least-ext n {p} {q} f = from-ext p q 0 n (λ j h. f j (omega arith))
+use Rattle.table.specs.Rows.{rowAt, besideOf, Alike}
+use Rattle.table.specs.Check.{Numbers, numbers, refused, rowRefusal, faulty, checkFrame, checkEach, checkRows, checkOf}
+use Rattle.table.specs.Seen.{ranges}
 
 frame-ext : (n : ℕ) {T U : ℕ → ℕ} → ((i : ℕ) → i < n → T i ≡ U i) → frameOf T n ≡ frameOf U n
 unfolding frameOf
@@ -36,7 +30,7 @@ module _ (n : ℕ) (row sow : ℕ → Row) (same : (i : ℕ) → i < n → row i
 
   over-same : overAt (λ i. row i .period) n ≡ overAt (λ i. sow i .period) n
   unfolding overAt
-  over-same = least-ext n (λ j h. ap (ltb 4096) (frame-ext (suc j) (λ i g. period-same i (omega arith))))
+  over-same = least-ext n (λ j h. ap (ltb mostSlots) (frame-ext (suc j) (λ i g. period-same i (omega arith))))
 
   check-frame-same : checkFrame n row ≡ checkFrame n sow
   unfolding checkFrame
@@ -60,12 +54,12 @@ module _ (n : ℕ) (row sow : ℕ → Row) (same : (i : ℕ) → i < n → row i
       go true e = ap (λ (r : Row). refused (rowRefusal r) first) (same first (ltb-true _ _ e))
       go false e = refl
 
-  pub check-rows-same : (m x : ℕ) → checkRows m x n row ≡ checkRows m x n sow
-  unfolding checkRows
-  check-rows-same m x =
-      ap (λ (a : Numbers). cond (inside 1 m 16) (cond (inside 1 x 8) (cond (inside 1 n 32) a (refused 3 0)) (refused 2 0)) (refused 1 0)) check-each-same
+  pub check-rows-same : (b : Beside) → checkRows b n row ≡ checkRows b n sow
+  unfolding checkRows ranges
+  check-rows-same b = ap (ranges b n) check-each-same
 
-pub past-the-count : (t u : Table) → t .processors ≡ u .processors → t .depth ≡ u .depth → t .count ≡ u .count
-    → ((i : ℕ) → i < t .count → rowAt t i ≡ rowAt u i) → checkOf t ≡ checkOf u
+pub past-the-count : (t u : Table) → Alike t u → checkOf t ≡ checkOf u
 unfolding checkOf
-past-the-count t u p q r f = check-rows-same (t .count) (rowAt t) (rowAt u) f (t .processors) (t .depth) ∙ rw (p, q, r)
+past-the-count t u a =
+    check-rows-same (t .count) (rowAt t) (rowAt u) (a .rows) (besideOf t)
+    ∙ ap₂ (λ (b : Beside) (n : ℕ). checkRows b n (rowAt u)) (a .beside) (a .count)

@@ -1,31 +1,31 @@
--- What a row that is in order is, and what a range test tells.
+-- What a row that is in order is.
 use mathlib.Core.Path.{_≡_, refl, sym, ap, _∙_}
 use mathlib.Core.Bool.{Bool, true, false, cond, _&&_}
 use Prim.Native.Nat.{ℕ, _≤_, _<_}
 use native.Mathlib.Omega.{arith}
 use lib.Dec.{leb, eqb}
 use borrow.Author.Tests.{leb-true, eqb-true, not-false}
-use Rattle.model.proofs.Bools.{and-left, and-right}
+use Rattle.basics.proofs.Bools.{and-left, and-right}
 use Rattle.table.specs.declared.Row.{Row}
-use Rattle.table.specs.Least.{least}
-use Rattle.table.specs.Check.{inside, rowRefusal, faulty}
-use Rattle.table.proofs.Least.{least-below}
-
-pub inside-true : (low x high : ℕ) → inside low x high ≡ true → (low ≤ x) × (x ≤ high)
-inside-true low x high e = (leb-true _ _ (and-left (leb low x) (leb x high) e), leb-true _ _ (and-right (leb low x) (leb x high) e))
+use Rattle.basics.specs.Least.{least}
+use Rattle.table.specs.Check.{rowRefusal, faulty}
+use Rattle.basics.specs.Range.{inside}
+use Rattle.basics.proofs.Least.{least-below}
+use Rattle.table.specs.Limits.{mostSlots}
+use Rattle.basics.proofs.Range.{inside-true}
 
 pub record InOrder (r : Row) : Type 0 where
   pub period-low : 1 ≤ r .period
-  pub period-high : r .period ≤ 4096
+  pub period-high : r .period ≤ mostSlots
   pub deadline-high : r .deadline ≤ r .period
   pub execution-low : 1 ≤ r .execution
   pub execution-high : r .execution ≤ r .deadline
 
 pub in-order : (r : Row) → rowRefusal r ≡ 0 → InOrder r
 unfolding rowRefusal
-in-order r e = go (inside 1 (r .period) 4096) (inside 1 (r .deadline) (r .period)) (inside 1 (r .execution) (r .deadline)) refl refl refl e
+in-order r e = go (inside 1 (r .period) mostSlots) (inside 1 (r .deadline) (r .period)) (inside 1 (r .execution) (r .deadline)) refl refl refl e
   where
-    go : (a b d : Bool) → inside 1 (r .period) 4096 ≡ a → inside 1 (r .deadline) (r .period) ≡ b → inside 1 (r .execution) (r .deadline) ≡ d
+    go : (a b d : Bool) → inside 1 (r .period) mostSlots ≡ a → inside 1 (r .deadline) (r .period) ≡ b → inside 1 (r .execution) (r .deadline) ≡ d
         → _≡_ {A = ℕ} (cond a (cond b (cond d 0 6) 5) 4) 0 → InOrder r
     go true true true p q s e =
         let u = inside-true _ _ _ p in

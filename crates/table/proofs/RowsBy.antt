@@ -1,4 +1,4 @@
--- How a loop reads rows one after another into room for N of them.
+-- How a loop reads rows one after another into the room of a table.
 use mathlib.Core.Path.{_≡_, refl, sym, ap, _∙_}
 use mathlib.Core.List.{List, [], _∷_, _++_, append-assoc, append-nil}
 use Prim.Native.Nat.{ℕ, zero, suc, _+_, _-_, _≤_, _<_}
@@ -9,6 +9,7 @@ use lib.ListN.{length, set, replicate, take, length-append, length-replicate}
 use lib.Seq.{set-at, take-all, take-append-le}
 use Rattle.table.specs.declared.Row.{Row}
 use Rattle.table.specs.Rows.{noRow, rowsBy, roomBy}
+use Rattle.table.specs.Limits.{mostRows}
 
 module _ (f : ℕ → Row) where
   pub length-rows : (k : ℕ) → length (rowsBy f k) ≡ k
@@ -25,29 +26,28 @@ module _ (f : ℕ → Row) where
       ∙ take-append-le k (rowsBy f (k + j)) _ (omega (arith, length-rows (k + j)))
       ∙ take-rows k j
 
-  module _ (N : ℕ) where
-    pub length-room : (k : ℕ) → k ≤ N → length (roomBy N f k) ≡ N
-    unfolding roomBy
-    length-room k h = simp (length-append, length-rows k, length-replicate) (omega arith)
+  pub length-room : (k : ℕ) → k ≤ mostRows → length (roomBy f k) ≡ mostRows
+  unfolding roomBy
+  length-room k h = simp (length-append, length-rows k, length-replicate) (omega arith)
 
-    pub room-none : replicate N noRow ≡ roomBy N f 0
-    unfolding roomBy rowsBy
-    room-none =
-        let all : N ≡ N - 0 = omega arith in
-        ap (λ (n : ℕ). replicate n noRow) all
+  pub room-none : replicate mostRows noRow ≡ roomBy f 0
+  unfolding roomBy rowsBy
+  room-none =
+      let all : mostRows ≡ mostRows - 0 = omega arith in
+      ap (λ (n : ℕ). replicate n noRow) all
 
-    -- one row more is stored
-    pub room-more : (i : ℕ) → i < N → set (roomBy N f i) i (f i) ≡ roomBy N f (i + 1)
-    unfolding roomBy rowsBy
-    room-more i h =
-        let left : N - i ≡ suc (N - suc i) = omega arith in
-        ap (λ (n : ℕ). set (rowsBy f i ++ replicate n noRow) i (f i)) left
-        ∙ set-at (rowsBy f i) noRow (replicate (N - suc i) noRow) (f i) i (length-rows i)
-        ∙ sym (append-assoc (rowsBy f i) (f i ∷ []) (replicate (N - suc i) noRow))
-        ∙ ap (roomBy N f) (sym (add-one i))
+  -- one row more is stored
+  pub room-more : (i : ℕ) → i < mostRows → set (roomBy f i) i (f i) ≡ roomBy f (i + 1)
+  unfolding roomBy rowsBy
+  room-more i h =
+      let left : mostRows - i ≡ suc (mostRows - suc i) = omega arith in
+      ap (λ (n : ℕ). set (rowsBy f i ++ replicate n noRow) i (f i)) left
+      ∙ set-at (rowsBy f i) noRow (replicate (mostRows - suc i) noRow) (f i) i (length-rows i)
+      ∙ sym (append-assoc (rowsBy f i) (f i ∷ []) (replicate (mostRows - suc i) noRow))
+      ∙ ap (roomBy f) (sym (add-one i))
 
-    pub room-all : roomBy N f N ≡ rowsBy f N
-    unfolding roomBy
-    room-all =
-        let none : N - N ≡ 0 = omega arith in
-        ap (λ (n : ℕ). rowsBy f N ++ replicate n noRow) none ∙ append-nil (rowsBy f N)
+  pub room-all : roomBy f mostRows ≡ rowsBy f mostRows
+  unfolding roomBy
+  room-all =
+      let none : mostRows - mostRows ≡ 0 = omega arith in
+      ap (λ (n : ℕ). rowsBy f mostRows ++ replicate n noRow) none ∙ append-nil (rowsBy f mostRows)

@@ -7,19 +7,23 @@ use native.Mathlib.Omega.{arith}
 use lib.Dec.{leb, ltb, eqb}
 use borrow.Author.Tests.{lt-ltb, le-ltb}
 use Rattle.table.specs.declared.Row.{Row}
+use Rattle.table.specs.declared.Beside.{Beside}
+use Rattle.table.specs.Limits.{mostProcessors, mostDepths, mostRows, mostSlots}
 use Rattle.table.specs.declared.Checked.{Checked}
 use Rattle.table.specs.declared.Checked.the-variants.{Frame, Refused}
-use Rattle.table.specs.Least.{least}
+use Rattle.basics.specs.Least.{least}
 use Rattle.table.specs.Frame.{frameOf, overAt}
-use Rattle.table.specs.Check.{Numbers, numbers, refused, rowRefusal, faulty, inside, checkFrame, checkEach, checkRows}
-use Rattle.table.proofs.Least.{least-found, least-none}
+use Rattle.table.specs.Check.{Numbers, numbers, refused, rowRefusal, faulty, checkFrame, checkEach, checkRows}
+use Rattle.basics.specs.Range.{inside}
+use Rattle.table.specs.Seen.{ranges}
+use Rattle.basics.proofs.Least.{least-found, least-none}
 
--- the multiple of the first i rows and of each fewer is at most 4,096
+-- the multiple of the first i rows and of each fewer is within the longest frame
 abbrev pub Small : (ℕ → Row) → ℕ → Type 0
-Small row i = (k : ℕ) → k < i → ltb 4096 (frameOf (λ j. row j .period) (suc k)) ≡ false
+Small row i = (k : ℕ) → k < i → ltb mostSlots (frameOf (λ j. row j .period) (suc k)) ≡ false
 
 module _ (n : ℕ) (row : ℕ → Row) where
-  pub frame-over : (i : ℕ) → Small row i → 4096 < frameOf (λ j. row j .period) (suc i) → i < n → refused 7 i ≡ checkFrame n row
+  pub frame-over : (i : ℕ) → Small row i → mostSlots < frameOf (λ j. row j .period) (suc i) → i < n → refused 7 i ≡ checkFrame n row
   unfolding overAt checkFrame
   frame-over i f g h =
       let e : i ≡ overAt (λ j. row j .period) n = least-found _ n i f (lt-ltb _ _ g) h in
@@ -39,19 +43,28 @@ module _ (n : ℕ) (row : ℕ → Row) where
   unfolding checkEach
   each-fine b p h = rw (← p, le-ltb b n h)
 
-module _ (m x n : ℕ) (row : ℕ → Row) where
-  pub rows-m : inside 1 m 16 ≡ false → refused 1 0 ≡ checkRows m x n row
-  unfolding checkRows
-  rows-m p = rw p
+module _ (a : Beside) (n : ℕ) (each : Numbers) where
+  pub range-m : inside 1 (a .processors) mostProcessors ≡ false → refused 1 0 ≡ ranges a n each
+  unfolding ranges
+  range-m p = rw p
 
-  pub rows-x : inside 1 m 16 ≡ true → inside 1 x 8 ≡ false → refused 2 0 ≡ checkRows m x n row
-  unfolding checkRows
-  rows-x p q = rw (p, q)
+  pub range-x : inside 1 (a .processors) mostProcessors ≡ true → inside 1 (a .depth) mostDepths ≡ false → refused 2 0 ≡ ranges a n each
+  unfolding ranges
+  range-x p q = rw (p, q)
 
-  pub rows-count : inside 1 m 16 ≡ true → inside 1 x 8 ≡ true → inside 1 n 32 ≡ false → refused 3 0 ≡ checkRows m x n row
-  unfolding checkRows
-  rows-count p q r = rw (p, q, r)
+  pub range-count : inside 1 (a .processors) mostProcessors ≡ true → inside 1 (a .depth) mostDepths ≡ true → inside 1 n mostRows ≡ false → refused 3 0 ≡ ranges a n each
+  unfolding ranges
+  range-count p q r = rw (p, q, r)
 
-  pub rows-each : inside 1 m 16 ≡ true → inside 1 x 8 ≡ true → inside 1 n 32 ≡ true → checkEach n row ≡ checkRows m x n row
-  unfolding checkRows
-  rows-each p q r = rw (p, q, r)
+  pub ranges-fine : inside 1 (a .processors) mostProcessors ≡ true → inside 1 (a .depth) mostDepths ≡ true → inside 1 n mostRows ≡ true → each ≡ ranges a n each
+  unfolding ranges
+  ranges-fine p q r = rw (p, q, r)
+
+module _ (a : Beside) (n : ℕ) (row : ℕ → Row) where
+  pub rows-count : inside 1 (a .processors) mostProcessors ≡ true → inside 1 (a .depth) mostDepths ≡ true → inside 1 n mostRows ≡ false → refused 3 0 ≡ checkRows a n row
+  unfolding checkRows ranges
+  rows-count = range-count a n (checkEach n row)
+
+  pub rows-each : inside 1 (a .processors) mostProcessors ≡ true → inside 1 (a .depth) mostDepths ≡ true → inside 1 n mostRows ≡ true → checkEach n row ≡ checkRows a n row
+  unfolding checkRows ranges
+  rows-each = ranges-fine a n (checkEach n row)

@@ -1,22 +1,19 @@
 -- The check of a table: "Order for a table: 1, 2, 3, then rows upward, in each 4, 5, 6; then 7."
-use mathlib.Core.Bool.{Bool, true, false, not, cond, _&&_}
+use mathlib.Core.Bool.{Bool, not, cond}
 use Prim.Native.Nat.{ℕ}
-use lib.Dec.{leb, ltb, eqb}
+use lib.Dec.{ltb, eqb}
 use Rattle.table.specs.declared.Row.{Row}
 use Rattle.table.specs.declared.Table.{Table}
-use Rattle.table.specs.declared.Refusal.{Refusal}
+use Rattle.table.specs.declared.Beside.{Beside}
+use Rattle.refusal.specs.declared.Refusal.{Refusal}
 use Rattle.table.specs.declared.Checked.{Checked}
 use Rattle.table.specs.declared.Checked.the-variants.{Frame, Refused}
-use Rattle.table.specs.Least.{least}
+use Rattle.basics.specs.Least.{least}
+use Rattle.basics.specs.Range.{inside}
+use Rattle.refusal.specs.Refusal.{inRow, none}
+use Rattle.table.specs.Limits.{mostProcessors, mostDepths, mostRows, mostSlots}
 use Rattle.table.specs.Frame.{frameOf, overAt}
-use Rattle.table.specs.Rows.{rowAt}
-
--- "A refusal gives its number, the entry and the row (0 where none applies)"; number 0 is no refusal
-abbrev pub refuse : ℕ → ℕ → ℕ → Refusal
-refuse k entry row = record { no = k; entry = entry; row = row }
-
-abbrev pub none : Refusal
-none = refuse 0 0 0
+use Rattle.table.specs.Rows.{rowAt, besideOf}
 
 -- the numbers of an answer: "A check that accepts gives H", and "All other numbers of a refused answer are 0"
 pub record Numbers : Type 0 where
@@ -29,15 +26,12 @@ numbers (Frame h) = record { refusal = none; frame = h }
 numbers (Refused r) = record { refusal = r; frame = 0 }
 
 abbrev pub refused : ℕ → ℕ → Numbers
-refused k row = numbers (Refused (refuse k 0 row))
-
-abbrev pub inside : ℕ → ℕ → ℕ → Bool
-inside low x high = leb low x && leb x high
+refused k row = numbers (Refused (inRow k row))
 
 -- "T is 1 to 4,096, D is 1 to T, C is 1 to D": 4, 5 or 6 for T, D or C outside its range, 0 for a row that is in order
 unfoldable pub rowRefusal : Row → ℕ
 rowRefusal r =
-    cond (inside 1 (r .period) 4096)
+    cond (inside 1 (r .period) mostSlots)
     (cond (inside 1 (r .deadline) (r .period))
     (cond (inside 1 (r .execution) (r .deadline)) 0 6)
     5)
@@ -58,13 +52,19 @@ checkEach n row =
     let first = least (λ i. faulty (row i)) n in
     cond (ltb first n) (refused (rowRefusal (row first)) first) (checkFrame n row)
 
--- "m is 1 to 16, x is 1 to 8, the count 1 to 32": n rows on m processors at depth x
-unfoldable pub checkRows : ℕ → ℕ → ℕ → (ℕ → Row) → Numbers
-checkRows m x n row =
-    cond (inside 1 m 16)
-    (cond (inside 1 x 8) (cond (inside 1 n 32) (checkEach n row) (refused 3 0)) (refused 2 0))
+-- "m is 1 to 16, x is 1 to 8, the count 1 to 32": n rows, with m and x beside them
+unfoldable pub checkRows : Beside → ℕ → (ℕ → Row) → Numbers
+checkRows a n row =
+    cond (inside 1 (a .processors) mostProcessors)
+    (cond (inside 1 (a .depth) mostDepths)
+    (cond (inside 1 n mostRows) (checkEach n row) (refused 3 0))
+    (refused 2 0))
     (refused 1 0)
 
 -- "Rows past the count never matter"
 unfoldable pub checkOf : Table → Numbers
-checkOf t = checkRows (t .processors) (t .depth) (t .count) (rowAt t)
+checkOf t = checkRows (besideOf t) (t .count) (rowAt t)
+
+-- 1 to 7 of a table, or none
+abbrev pub tableRefusal : Table → Refusal
+tableRefusal t = checkOf t .refusal

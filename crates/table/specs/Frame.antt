@@ -1,8 +1,9 @@
 -- "The frame H is the least common multiple of the periods, at most 4,096."
 use Prim.Native.Nat.{ℕ, zero, suc}
 use lib.Dec.{ltb}
+use Rattle.table.specs.Limits.{mostSlots}
 use Rattle.table.specs.Divisor.{multiple}
-use Rattle.table.specs.Least.{least}
+use Rattle.basics.specs.Least.{least}
 
 -- the multiple of the first n periods
 unfoldable pub frameOf : (ℕ → ℕ) → ℕ → ℕ
@@ -11,4 +12,4 @@ frameOf T (suc n) = multiple (frameOf T n) (T n)
 
 -- "the first whose period takes the multiple of the rows so far over it", and n where none of the first n does
 unfoldable pub overAt : (ℕ → ℕ) → ℕ → ℕ
-overAt T n = least (λ i. ltb 4096 (frameOf T (suc i))) n
+overAt T n = least (λ i. ltb mostSlots (frameOf T (suc i))) n

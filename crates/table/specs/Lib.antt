@@ -1,8 +1,8 @@
 -- What a table is, when it is accepted, and which model it makes.
+pub mod Limits
 pub mod Divisor
-pub mod Least
 pub mod Frame
 pub mod Rows
 pub mod Check
 pub mod Meaning
-pub mod Refusals
+pub mod Seen

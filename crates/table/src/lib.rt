@@ -1,32 +1,41 @@
 // A table of tasks and its check.
 ghost use mathlib.Core.Path.{_≡_};
-ghost use Prim.Native.Nat.{ℕ, _≤_, _<_};
-ghost use Rattle.table.specs.Check.{Numbers, numbers, refuse, checkOf, checkFrame, inside, rowRefusal, faulty};
-ghost use Rattle.table.specs.Least.{least};
-ghost use Rattle.table.specs.Rows.{rowAt};
+ghost use Rattle.table.specs.Rows.{noRow, noRows, besideOf, noTable};
+ghost use Rattle.table.specs.Check.{numbers, refused as refusedAs, checkOf, tableRefusal, rowRefusal};
+ghost use Rattle.table.specs.Seen.{noneSeen, oneMore, stepOf, finishOf};
+use basics::ranges;
+use basics::widths;
+use refusal::Refusal;
 
 mod euclid;
+pub mod limits;
+
+use limits::DEPTHS;
+use limits::PROCESSORS;
+use limits::ROWS;
+use limits::SLOTS;
 
 // T, C and D of a task.
+#[repr(C)]
 pub struct Row {
     pub period: u16,
     pub execution: u16,
     pub deadline: u16,
 }
 
-// Processors m, depth x, and room for 32 rows, of which the first `count` matter.
+// Processors m, depth x, and room for the rows, of which the first `count` matter.
 pub struct Table {
     pub processors: u8,
     pub depth: u8,
     pub count: u8,
-    pub rows: [Row; 32],
+    pub rows: [Row; ROWS],
 }
 
-// A refusal's number, and the entry and row that it names, 0 where none applies.
-pub struct Refusal {
-    pub no: u8,
-    pub entry: u8,
-    pub row: u8,
+// What stands beside the rows: m and x.
+#[repr(C)]
+pub struct Beside {
+    pub processors: u8,
+    pub depth: u8,
 }
 
 // What a check of a table answers: the frame, or a refusal.
@@ -35,106 +44,182 @@ pub enum Checked {
     Refused(Refusal),
 }
 
-fn refused(no: u8, row: u8) -> Checked
-    ensures { λ r. ⌜ r ≡ Checked.Refused (refuse no 0 row) ⌝ }
-{
-    Checked::Refused(Refusal { no, entry: 0, row })
+// What stands beside the rows, and what the rows seen so far come to: how many they are, one more than the most for all above it;
+// the first that is refused by itself, with its refusal, 0 where none is; and the multiple of their periods, which stops over the
+// longest frame, with the last row that it took in.
+pub struct Seen {
+    pub beside: Beside,
+    pub count: u8,
+    pub no: u8,
+    pub row: u8,
+    pub frame: u32,
+    pub last: u8,
 }
 
-// Whether x is 1 to high.
-fn within(x: u8, high: u8) -> bool
-    ensures { λ r. ⌜ r ≡ inside 1 x high ⌝ }
+// A row of zeros.
+pub fn no_row() -> Row
+    ensures { λ r. ⌜ r ≡ noRow ⌝ }
 {
-    if x < 1 {
-        return false;
+    Row {
+        period: 0,
+        execution: 0,
+        deadline: 0,
     }
-    x <= high
+}
+
+// The room for rows, with zeros in it.
+pub fn no_rows() -> [Row; ROWS]
+    ensures { λ r. ⌜ r ≡ noRows ⌝ }
+{
+    let row = no_row();
+    [row; ROWS]
+}
+
+// A table of zeros.
+pub fn no_table() -> Table
+    ensures { λ t. ⌜ t ≡ noTable ⌝ }
+{
+    let rows = no_rows();
+    Table {
+        processors: 0,
+        depth: 0,
+        count: 0,
+        rows,
+    }
+}
+
+// A refusal that names a row, as the answer of a check.
+pub fn refused(no: u8, row: u8) -> Checked
+    ensures { λ r. ⌜ numbers r ≡ refusedAs no row ⌝ }
+{
+    Checked::Refused(refusal::in_row(no, row))
 }
 
 // The refusal of a row by itself, or 0: T, then D, then C.
 fn row_refusal(r: Row) -> u8
     ensures { λ n. ⌜ n ≡ rowRefusal r ⌝ }
 {
-    if r.period < 1 {
+    let period = widths::size_of_half(r.period);
+    if !ranges::within(1, period, SLOTS) {
         return 4;
     }
-    if 4096 < r.period {
-        return 4;
-    }
-    if r.deadline < 1 {
+    let deadline = widths::size_of_half(r.deadline);
+    if !ranges::within(1, deadline, period) {
         return 5;
     }
-    if r.period < r.deadline {
-        return 5;
-    }
-    if r.execution < 1 {
-        return 6;
-    }
-    if r.deadline < r.execution {
+    if !ranges::within(1, widths::size_of_half(r.execution), deadline) {
         return 6;
     }
     0
 }
 
-// The first of n rows that is refused by itself, or n.
-fn first_faulty(t: Table, n: usize) -> usize
-    requires { ⌜ n ≤ 32 ⌝ }
-    ensures { λ r. ⌜ r ≡ least (λ i. faulty (rowAt t i)) n ⌝ }
+// No row yet.
+pub fn start(beside: Beside) -> Seen
+    ensures { λ r. ⌜ r ≡ noneSeen beside ⌝ }
 {
-    let mut i: usize = 0;
-    while i < n {
-        let row = t.rows[i];
-        if row_refusal(row) != 0 {
-            return i;
-        }
-        i += 1;
+    Seen {
+        beside,
+        count: 0,
+        no: 0,
+        row: 0,
+        frame: 1,
+        last: 0,
     }
-    i
 }
 
-fn size(x: u8) -> usize
-    ensures { λ r. ⌜ r ≡ x ⌝ }
-{
-    x as usize
-}
+// Stands for every count above the most.
+const MANY: u8 = (ROWS + 1) as u8;
 
-// The frame of n rows in order, or refusal 7 with the row that takes it over 4,096.
-fn check_frame(t: Table, n: usize) -> Checked
-    requires { ⌜ n ≤ 32 ⌝ }
-    requires { ⌜ ((i : ℕ) → i < n → 0 < rowAt t i .period) ⌝ }
-    ensures { λ r. ⌜ numbers r ≡ checkFrame n (rowAt t) ⌝ }
+fn one_more(n: u8) -> u8
+    ensures { λ r. ⌜ r ≡ oneMore n ⌝ }
 {
-    let mut h: u32 = 1;
-    let mut i: usize = 0;
-    while i < n {
-        let row = t.rows[i];
-        h = euclid::multiple(h, row.period);
-        if 4096 < h {
-            return refused(7, i as u8);
-        }
-        i += 1;
+    if widths::size_of_byte(n) < ROWS {
+        return n + 1;
     }
-    Checked::Frame(h)
+    MANY
 }
 
-// The frame of a table, or its first refusal: 1, 2, 3, then the rows' 4, 5, 6, then 7.
+// One row more.
+pub fn step(s: Seen, row: Row) -> Seen
+    ensures { λ r. ⌜ r ≡ stepOf s row ⌝ }
+{
+    let mut u = s;
+    u.count = one_more(s.count);
+    if s.no != 0 {
+        return u;
+    }
+    let no = row_refusal(row);
+    if no != 0 {
+        u.no = no;
+        u.row = s.count;
+        return u;
+    }
+    if !ranges::within(1, widths::size_of_word(s.frame), SLOTS) {
+        return u;
+    }
+    u.frame = euclid::multiple(s.frame, row.period);
+    u.last = s.count;
+    u
+}
+
+// The frame of the rows seen, or their first refusal: 1, 2, 3, then the rows' 4, 5, 6, then 7.
+pub fn finish(s: Seen) -> Checked
+    ensures { λ r. ⌜ numbers r ≡ finishOf s ⌝ }
+{
+    if !ranges::within(1, widths::size_of_byte(s.beside.processors), PROCESSORS) {
+        return refused(1, 0);
+    }
+    if !ranges::within(1, widths::size_of_byte(s.beside.depth), DEPTHS) {
+        return refused(2, 0);
+    }
+    if !ranges::within(1, widths::size_of_byte(s.count), ROWS) {
+        return refused(3, 0);
+    }
+    if s.no != 0 {
+        return refused(s.no, s.row);
+    }
+    if SLOTS < widths::size_of_word(s.frame) {
+        return refused(7, s.last);
+    }
+    Checked::Frame(s.frame)
+}
+
+// What a table has beside its rows.
+pub fn beside_of(t: Table) -> Beside
+    ensures { λ r. ⌜ r ≡ besideOf t ⌝ }
+{
+    Beside {
+        processors: t.processors,
+        depth: t.depth,
+    }
+}
+
+// The frame of a table, or its first refusal.
 pub fn check(t: Table) -> Checked
     ensures { λ r. ⌜ numbers r ≡ checkOf t ⌝ }
 {
-    if !within(t.processors, 16) {
-        return refused(1, 0);
+    let n = widths::size_of_byte(t.count);
+    let mut s = start(beside_of(t));
+    if ROWS < n {
+        s.count = MANY;
+        return finish(s);
     }
-    if !within(t.depth, 8) {
-        return refused(2, 0);
+    let mut i: usize = 0;
+    while i < n {
+        let row = t.rows[i];
+        s = step(s, row);
+        i += 1;
     }
-    if !within(t.count, 32) {
-        return refused(3, 0);
+    finish(s)
+}
+
+// The refusal of a table, 1 to 7, or none.
+pub fn refusal_of(t: Table) -> Refusal
+    ensures { λ r. ⌜ r ≡ tableRefusal t ⌝ }
+{
+    let c = check(t);
+    match c {
+        Checked::Frame(_) => refusal::none(),
+        Checked::Refused(r) => r,
     }
-    let n = size(t.count);
-    let b = first_faulty(t, n);
-    if b < n {
-        let row = t.rows[b];
-        return refused(row_refusal(row), b as u8);
-    }
-    check_frame(t, n)
 }

@@ -8,7 +8,8 @@ pub struct Refusal {
     pub row: u32,
 }
 
-/// One row (T, C, D).
+/// One row (T, C, D), as it stands in a lent list too.
+#[repr(C)]
 #[derive(Clone, Copy, Debug, Default, PartialEq, Eq)]
 pub struct Row {
     pub period: u16,
@@ -68,6 +69,28 @@ pub struct Filed {
 pub struct Written {
     pub refusal: Refusal,
     pub length: u32,
+}
+
+impl Refusal {
+    pub fn numbers(&self) -> [u32; 3] {
+        [self.no, self.entry, self.row]
+    }
+}
+
+impl Judged {
+    /// The refusal's numbers, t, work, supply, frame.
+    pub fn numbers(&self) -> [u32; 7] {
+        let [no, entry, row] = self.refusal.numbers();
+        [no, entry, row, self.t, self.work, self.supply, self.frame]
+    }
+}
+
+impl Ladder {
+    /// The refusal's numbers, then the lines of the square.
+    pub fn numbers(&self) -> [u32; 27] {
+        let refusal = self.refusal.numbers();
+        std::array::from_fn(|k| if k < 3 { refusal[k] } else { self.square[k / 3 - 1][k % 3] })
+    }
 }
 
 impl Table {

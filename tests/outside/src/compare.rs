@@ -58,10 +58,10 @@ pub fn check(run: &mut Run, given: &Given) -> Compared<Checked> {
     Ok(expected)
 }
 
-pub fn check_list(run: &mut Run, m: u8, x: u8, numbers: &[u16]) -> Compared<Checked> {
-    let expected = Reference.check_list(m, x, numbers);
-    let got = run.subject.check_list(m, x, numbers);
-    run.same(|| format!("check of the list m {m} x {x} {numbers:?}"), expected, got)?;
+pub fn check_list(run: &mut Run, m: u8, x: u8, rows: &[Row]) -> Compared<Checked> {
+    let expected = Reference.check_list(m, x, rows);
+    let got = run.subject.check_list(m, x, rows);
+    run.same(|| format!("check of the list m {m} x {x} {rows:?}"), expected, got)?;
     Ok(expected)
 }
 

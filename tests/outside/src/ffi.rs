@@ -7,7 +7,7 @@ use crate::subject::Subject;
 
 extern "C" {
     fn awelodrun_check(m: u8, x: u8, count: u8, rows: *const u16, rows_len: usize, answer: *mut [u32; 4]);
-    fn awelodrun_check_list(m: u8, x: u8, rows: *const u16, rows_len: usize, answer: *mut [u32; 4]);
+    fn awelodrun_check_list(beside: Beside, rows: *const Row, rows_len: usize) -> Answer;
     fn awelodrun_judge(
         m: u8,
         x: u8,
@@ -79,7 +79,23 @@ extern "C" {
     ) -> usize;
 }
 
-/// The static library of `capi`.
+/// What stands beside a lent list of rows.
+#[repr(C)]
+struct Beside {
+    processors: u8,
+    depth: u8,
+}
+
+/// The answer of the check of a list, which comes back by value.
+#[repr(C)]
+struct Answer {
+    no: u32,
+    entry: u32,
+    row: u32,
+    frame: u32,
+}
+
+/// The static library of `awelodrun`.
 pub struct Library;
 
 /// What an answer holds before the call: every number of it must be written.
@@ -106,10 +122,10 @@ impl Subject for Library {
         Checked { refusal: refusal(&answer), frame: answer[3] }
     }
 
-    fn check_list(&self, m: u8, x: u8, numbers: &[u16]) -> Checked {
-        let mut answer = [MARK; 4];
-        unsafe { awelodrun_check_list(m, x, numbers.as_ptr(), numbers.len(), &mut answer) };
-        Checked { refusal: refusal(&answer), frame: answer[3] }
+    fn check_list(&self, m: u8, x: u8, rows: &[Row]) -> Checked {
+        let Answer { no, entry, row, frame } =
+            unsafe { awelodrun_check_list(Beside { processors: m, depth: x }, rows.as_ptr(), rows.len()) };
+        Checked { refusal: Refusal { no, entry, row }, frame }
     }
 
     fn judge(&self, table: &Given, map: &mut [u32], pins: &mut [u32]) -> Judged {

@@ -1,6 +1,8 @@
 //! The outside tests: an independent reading of document 01, and the suite that holds a library to it.
 
 pub mod answers;
+#[cfg(feature = "library")]
+pub mod bound;
 pub mod compare;
 pub mod draft;
 pub mod draw;

@@ -7,7 +7,7 @@ pub mod put;
 pub mod table;
 pub mod text;
 
-use crate::answers::{rows_of, Checked, Filed, Given, Judged, Ladder, Row, Tabled, Written};
+use crate::answers::{Checked, Filed, Given, Judged, Ladder, Row, Tabled, Written};
 use crate::subject::Subject;
 
 /// The reference as a library under test.
@@ -17,8 +17,8 @@ impl Subject for Reference {
     fn check(&self, given: &Given) -> Checked {
         table::check(&given.table())
     }
-    fn check_list(&self, m: u8, x: u8, numbers: &[u16]) -> Checked {
-        table::check_list(m, x, &rows_of(numbers))
+    fn check_list(&self, m: u8, x: u8, rows: &[Row]) -> Checked {
+        table::check_list(m, x, rows)
     }
     fn judge(&self, given: &Given, map: &mut [u32], pins: &mut [u32]) -> Judged {
         judge::judge(&given.table(), map, pins)

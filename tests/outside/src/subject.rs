@@ -4,8 +4,8 @@ use crate::answers::{Checked, Filed, Given, Judged, Ladder, Row, Tabled, Written
 
 pub trait Subject {
     fn check(&self, table: &Given) -> Checked;
-    /// The check of a lent list of rows: T, C, D of each in turn, and 0 for what a last row lacks.
-    fn check_list(&self, m: u8, x: u8, numbers: &[u16]) -> Checked;
+    /// The check of a lent list of rows, with m and x beside them.
+    fn check_list(&self, m: u8, x: u8, rows: &[Row]) -> Checked;
     fn judge(&self, table: &Given, map: &mut [u32], pins: &mut [u32]) -> Judged;
     fn ladder(&self, table: &Given, map: &mut [u32], pins: &mut [u32]) -> Ladder;
     fn add(&self, table: &Given, row: Row) -> Tabled;

@@ -35,8 +35,8 @@ impl Subject for Wrong {
     fn check(&self, given: &Given) -> Checked {
         checked(table::frame_of(self, &given.table()))
     }
-    fn check_list(&self, m: u8, x: u8, numbers: &[u16]) -> Checked {
-        checked(table::frame_of_list(self, m, x, numbers))
+    fn check_list(&self, m: u8, x: u8, rows: &[Row]) -> Checked {
+        checked(table::frame_of_list(self, m, x, rows))
     }
     fn judge(&self, given: &Given, map: &mut [u32], pins: &mut [u32]) -> Judged {
         judge::judge(self, &given.table(), map, pins)

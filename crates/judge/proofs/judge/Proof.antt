@@ -7,55 +7,26 @@ use Rattle.judge.proofs.Answers.{judged-refused, judged-given}
 use Rattle.judge.proofs.judge.Statement.{statement}
 use Rattle.judge.proofs.judge.Tie as tie
 
-admit-requires : tie.Need-admit-requires
-admit-requires c κs = search needs
-
-enum-known-c : tie.Need-enum-known-c
-enum-known-c c = search needs
-
-enum-known-c-2 : tie.Need-enum-known-c-2
-enum-known-c-2 c = search needs
-
-size-requires : tie.Need-size-requires
-size-requires c κs = search needs
-
 line-requires : tie.Need-line-requires
 line-requires c κs =
     let start = c .before .before .before .before .before .before .before .before .before in
     let a = admitted (start .args .t) _ _ _ (ap numbers (sym (c .before .before .before .before .c2 .given .1)) ∙ c .before .before .before .before .before .before .admit .ensures) in
-    rw (c .before .before .size .ensures) a
-
-verdict-of-requires : tie.Need-verdict-of-requires
-verdict-of-requires c κs = search needs
+    rw (c .before .before .size-of-word .ensures .same) a
 
 returns : tie.Need-returns
 returns c =
     let start = c .before .before .before .before .before .before in
     judged-refused (start .args .t) _ _ _ (ap numbers (sym (c .before .c .given .1)) ∙ c .before .before .before .admit .ensures)
 
-same-length : tie.Need-same-length
-same-length c = search needs
-
-same-length-2 : tie.Need-same-length-2
-same-length-2 c = search needs
-
 returns-2 : tie.Need-returns-2
 returns-2 c =
     let start = c .before .before .before .before .before .before .before .before .before .before .before .before .before .before .before in
     rw (c .verdict-of .ensures)
-    (judged-given (start .args .t) _ _ _ _ _ _ _ (ap numbers (sym (c .before .before .before .before .before .before .before .before .before .before .c2 .given .1)) ∙ c .before .before .before .before .before .before .before .before .before .before .before .before .admit .ensures) (c .before .before .before .before .before .before .before .before .size .ensures) (c .before .before .before .before .before .line .ensures))
+    (judged-given (start .args .t) _ _ _ _ _ _ _ (ap numbers (sym (c .before .before .before .before .before .before .before .before .before .before .c2 .given .1)) ∙ c .before .before .before .before .before .before .before .before .before .before .before .before .admit .ensures) (c .before .before .before .before .before .before .before .before .size-of-word .ensures .same) (c .before .before .before .before .before .line .ensures))
 
 pub judge-spec : {M : Type 1} → statement M
 judge-spec =
     tie.close
     (tie.spec
-    admit-requires
-    enum-known-c
-    enum-known-c-2
-    size-requires
-    line-requires
-    verdict-of-requires
-    returns
-    same-length
-    same-length-2
-    returns-2)
+    (λ c κs. search needs) (λ c. search needs) (λ c. search needs) (λ c κs. search needs)
+    line-requires (λ c κs. search needs) returns (λ c. search needs) (λ c. search needs) returns-2)

@@ -13,4 +13,8 @@ returns-2 : tie.Need-returns-2
 returns-2 c = rw (ne-eqb _ _ (c .if1 .left))
 
 pub verdict-of-spec : {M : Type 1} → statement M
-verdict-of-spec = tie.close (tie.spec returns returns-2)
+verdict-of-spec =
+    tie.close
+    (tie.spec
+    returns
+    returns-2)

@@ -12,32 +12,11 @@ use Rattle.shift.proofs.main.Tie as tie
 fits : (c : tie.After-input) → c .input .given .0 .0 ≤ length (c .before .before .before .read-file .last .0)
 fits c = omega (arith, c .before .before .before .read-file .ensures, ap countOf (c .input .given .1))
 
-slice-aggregate-read-file : tie.Need-slice-aggregate-read-file
-slice-aggregate-read-file c = search needs
-
-read-file-requires : tie.Need-read-file-requires
-read-file-requires c κs = search needs
-
-enum-known-input : tie.Need-enum-known-input
-enum-known-input c = search needs
-
 array-share-prefix-file : tie.Need-array-share-prefix-file
 array-share-prefix-file c = fits (c .before)
 
 slice-aggregate-write-text : tie.Need-slice-aggregate-write-text
 slice-aggregate-write-text c = sym (length-take-le _ _ (fits (c .before .before)))
-
-write-text-requires : tie.Need-write-text-requires
-write-text-requires c κs = search needs
-
-enum-told : tie.Need-enum-told
-enum-told c = search needs
-
-slice-aggregate-fail : tie.Need-slice-aggregate-fail
-slice-aggregate-fail c = search needs
-
-fail-requires : tie.Need-fail-requires
-fail-requires c κs = search needs
 
 returns : tie.Need-returns
 returns c = search needs
@@ -49,14 +28,6 @@ pub main-spec : {M : Type 1} → statement M
 main-spec =
     tie.close
     (tie.spec
-    slice-aggregate-read-file
-    read-file-requires
-    enum-known-input
-    array-share-prefix-file
-    slice-aggregate-write-text
-    write-text-requires
-    enum-told
-    slice-aggregate-fail
-    fail-requires
-    returns
-    returns-2)
+    (λ c. search needs) (λ c κs. search needs) (λ c. search needs) array-share-prefix-file
+    slice-aggregate-write-text (λ c κs. search needs) (λ c. search needs) (λ c. search needs)
+    (λ c κs. search needs) returns returns-2)

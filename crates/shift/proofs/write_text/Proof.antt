@@ -4,30 +4,18 @@ use borrow.Author.Needs.{needs}
 use Prim.Native.Nat.{ℕ, _≤_}
 use lib.ListN.{length, length-replicate}
 use lib.Seq.{length-take-le}
-use Rattle.shifttext.proofs.Texts.{shifted-fits}
+use Rattle.text_shift.proofs.Texts.{shifted-fits}
 use Rattle.shift.proofs.write_text.Statement.{statement}
 use Rattle.shift.proofs.write_text.Tie as tie
 
 fits : (c : tie.After-shift-text) → c .shift-text .result ≤ length (c .shift-text .last .1 .1 .1 .0)
 fits c = shifted-fits (c .shift-text .ensures) (length-replicate {A = ℕ} 4096 0)
 
-shift-text-requires : tie.Need-shift-text-requires
-shift-text-requires c κs = search needs
-
 array-share-prefix-text : tie.Need-array-share-prefix-text
 array-share-prefix-text c = fits c
 
 slice-aggregate-write-all : tie.Need-slice-aggregate-write-all
 slice-aggregate-write-all c = sym (length-take-le _ _ (fits (c .before)))
-
-write-all-requires : tie.Need-write-all-requires
-write-all-requires c κs = search needs
-
-slice-aggregate-fail : tie.Need-slice-aggregate-fail
-slice-aggregate-fail c = search needs
-
-fail-requires : tie.Need-fail-requires
-fail-requires c κs = search needs
 
 returns : tie.Need-returns
 returns c = search needs
@@ -39,11 +27,5 @@ pub write-text-spec : {M : Type 1} → statement M
 write-text-spec =
     tie.close
     (tie.spec
-    shift-text-requires
-    array-share-prefix-text
-    slice-aggregate-write-all
-    write-all-requires
-    slice-aggregate-fail
-    fail-requires
-    returns
-    returns-2)
+    (λ c κs. search needs) array-share-prefix-text slice-aggregate-write-all (λ c κs. search needs)
+    (λ c. search needs) (λ c κs. search needs) returns returns-2)

@@ -1,22 +1,30 @@
-//! Lent lists of rows: none, up to more than a table has room for, with whole last rows and not, good and bad.
+//! Lent lists of rows: none, up to more than a table has room for, good and bad.
 
+use crate::answers::{rows_of, Row};
 use crate::compare;
 use crate::draw::{any, good, Size};
 use crate::run::{Outcome, Run};
 
 /// Lists of each length up to 40 rows, and of some that a byte cannot count; with m and x in their range and outside.
 pub fn lengths(run: &mut Run) -> Outcome {
-    let long = [255, 256, 257, 288, 289, 65_536, 65_537].map(|rows| 3 * rows);
-    for length in (0..=120).chain(long) {
-        let numbers: Vec<u16> = (0..length).map(|k| if k % 3 == 0 { 4 } else { 2 }).collect();
+    for length in (0..=40).chain([255, 256, 257, 288, 289, 65_536, 65_537]) {
+        let rows = vec![Row { period: 4, execution: 2, deadline: 2 }; length];
         for (m, x) in [(1, 1), (16, 8), (16, 1), (1, 8), (2, 3), (0, 3), (17, 0), (2, 0), (2, 9), (9, 2)] {
-            compare::check_list(run, m, x, &numbers)?;
+            compare::check_list(run, m, x, &rows)?;
         }
-        // The last number of the list is looked at, where the list is not too long.
-        if let Some(last) = numbers.len().checked_sub(1) {
-            let mut changed = numbers.clone();
-            changed[last] = 65_535;
-            compare::check_list(run, 2, 3, &changed)?;
+        // Each field of the first and of the last row is looked at, where the list is not too long.
+        for at in [0, length.saturating_sub(1)] {
+            for wrong in [
+                Row { period: 65_535, execution: 2, deadline: 2 },
+                Row { period: 4, execution: 65_535, deadline: 2 },
+                Row { period: 4, execution: 2, deadline: 65_535 },
+            ] {
+                let mut changed = rows.clone();
+                if let Some(row) = changed.get_mut(at) {
+                    *row = wrong;
+                }
+                compare::check_list(run, 2, 3, &changed)?;
+            }
         }
     }
     Ok(())
@@ -26,14 +34,15 @@ pub fn lengths(run: &mut Run) -> Outcome {
 pub fn random(run: &mut Run) -> Outcome {
     while run.more() {
         let table = good(&mut run.random, Size::Middle);
-        let rows: Vec<u16> = table.counted().iter().flat_map(|row| [row.period, row.execution, row.deadline]).collect();
+        let rows = table.counted().to_vec();
         let checked = compare::check_list(run, table.m, table.x, &rows)?;
         run.tally(if checked.refusal.no == 0 { "good" } else { "refused" });
         let cut = run.random.below(rows.len() + 1);
         compare::check_list(run, table.m, table.x, &rows[..cut])?;
         let damaged = any(&mut run.random);
-        compare::check_list(run, damaged.m, damaged.x, &damaged.numbers)?;
-        let both = [rows, damaged.numbers].concat();
+        let damaged_rows = rows_of(&damaged.numbers);
+        compare::check_list(run, damaged.m, damaged.x, &damaged_rows)?;
+        let both = [rows, damaged_rows].concat();
         compare::check_list(run, table.m, table.x, &both)?;
     }
     Ok(())

@@ -1,6 +1,6 @@
 //! Every refusal of a table at every bound, alone and two at once in either order.
 
-use crate::answers::{Given, Row, Table};
+use crate::answers::{rows_of, Given, Row, Table};
 use crate::compare;
 use crate::run::{Outcome, Run};
 
@@ -58,7 +58,7 @@ fn everything(run: &mut Run, given: &Given) -> Outcome {
     let checked = compare::check(run, given)?;
     run.tally(if checked.refusal.no == 0 { "good" } else { "refused" });
     let used = given.numbers.len().min(3 * given.count as usize);
-    compare::check_list(run, given.m, given.x, &given.numbers[..used])?;
+    compare::check_list(run, given.m, given.x, &rows_of(&given.numbers[..used]))?;
     let lists = if checked.frame > 64 { (0, 0) } else { (64, 64) };
     compare::judge(run, given, lists)?;
     compare::ladder(run, given, lists)?;

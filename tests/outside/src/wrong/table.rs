@@ -25,7 +25,7 @@ pub const TURNS: &[&str] = &[
     "a list of 33 rows by its first 32",
     "an empty list's frame is 1",
     "a list's count rolls over at 256",
-    "a list's last row only where it is whole",
+    "a list from its second row on",
     "a list's depth is its m",
 ];
 
@@ -115,13 +115,14 @@ pub fn frame_of(w: &Wrong, table: &Table) -> Result<u32, Refusal> {
 }
 
 /// The frame of a lent list of rows, by way of a table of as many.
-pub fn frame_of_list(w: &Wrong, m: u8, x: u8, numbers: &[u16]) -> Result<u32, Refusal> {
-    let whole = w.turn("a list's last row only where it is whole");
-    let rows = if whole { numbers.len() / 3 } else { numbers.len().div_ceil(3) };
+pub fn frame_of_list(w: &Wrong, m: u8, x: u8, list: &[Row]) -> Result<u32, Refusal> {
+    let list = if w.turn("a list from its second row on") { list.get(1..).unwrap_or(list) } else { list };
+    let rows = list.len();
+    let numbers: Vec<u16> = list.iter().flat_map(|row| [row.period, row.execution, row.deadline]).collect();
     let most = if w.turn("a list of 33 rows by its first 32") { 32 } else { 33 };
     let count = if w.turn("a list's count rolls over at 256") { rows as u8 } else { rows.min(most) as u8 };
     let x = if w.turn("a list's depth is its m") { m } else { x };
-    let frame = frame_of(w, &Given { m, x, count, numbers: numbers.to_vec() }.table());
+    let frame = frame_of(w, &Given { m, x, count, numbers }.table());
     if rows == 0 && w.turn("an empty list's frame is 1") && frame == Err(refuse(3, 0)) {
         return Ok(1);
     }

@@ -1,0 +1,3 @@
+-- The laws behind the C functions.
+pub mod Outcomes
+pub mod Determined

@@ -1,0 +1,76 @@
+// Tables for C: the checks of a table and of a list of rows, the judge and the ladder.
+ghost use mathlib.Core.Path.{_≡_};
+ghost use Rattle.table.specs.Check.{checkOf};
+ghost use Rattle.table_list.specs.List.{checkList};
+ghost use Rattle.c_numbers.specs.Lent.{lentTable};
+ghost use Rattle.c_numbers.specs.Answers.{checkAnswer, answerOf};
+ghost use Rattle.awelodrun.specs.Outcomes.{Judges, Ladders};
+use c_numbers::answers;
+use c_numbers::answers::Answer;
+use c_numbers::answers::SQUARE;
+use c_numbers::lent;
+use judge_scan::Line;
+use sets::Set;
+use table::Beside;
+use table::Row;
+use table::limits::DEPTHS;
+
+// The check of a table: no, entry, row, frame.
+#[no_mangle]
+pub extern "C" fn awelodrun_check(m: u8, x: u8, count: u8, rows: &[u16], answer: &mut [u32; 4])
+    ensures { λ _. ⌜ now (answer .exit) ≡ checkAnswer (checkOf (lentTable m x count (now (rows .entry)))) ⌝ }
+{
+    *answer = answers::of_check(table::check(lent::read_table(m, x, count, rows)));
+}
+
+// The check of a list of rows, as it is lent.
+#[no_mangle]
+pub extern "C" fn awelodrun_check_list(beside: Beside, rows: &[Row]) -> Answer
+    ensures { λ a. ⌜ a ≡ answerOf (checkList beside (now (rows .entry))) ⌝ }
+{
+    let mut s = table::start(beside);
+    let mut i: usize = 0;
+    while i < rows.len() {
+        s = table::step(s, rows[i]);
+        i += 1;
+    }
+    answers::of_seen(s)
+}
+
+// The judge: no, entry, row, t, work, supply, frame.
+#[no_mangle]
+pub extern "C" fn awelodrun_judge(
+    m: u8,
+    x: u8,
+    count: u8,
+    rows: &[u16],
+    map: &mut [Set],
+    pins: &mut [Set],
+    answer: &mut [u32; 7],
+)
+    ensures { λ _. ⌜ Judges (lentTable m x count (now (rows .entry))) (now (map .entry)) (now (pins .entry)) (now (map .exit)) (now (pins .exit)) (now (answer .exit)) ⌝ }
+{
+    let t = lent::read_table(m, x, count, rows);
+    *answer = answers::of_verdict(judge::judge(t, map, pins));
+}
+
+// The ladder: no, entry, row; and the square, t, work, supply of each depth from 1 to 8.
+#[no_mangle]
+pub extern "C" fn awelodrun_ladder(
+    m: u8,
+    x: u8,
+    count: u8,
+    rows: &[u16],
+    map: &mut [Set],
+    pins: &mut [Set],
+    square: &mut [u32; SQUARE],
+    answer: &mut [u32; 3],
+)
+    ensures { λ _. ⌜ Ladders (lentTable m x count (now (rows .entry))) (now (map .entry)) (now (pins .entry)) (now (map .exit)) (now (pins .exit)) (now (square .exit)) (now (answer .exit)) ⌝ }
+{
+    let t = lent::read_table(m, x, count, rows);
+    let given = judge_ladder::ladder(t, map, pins);
+    let lines: [Line; DEPTHS] = given.lines;
+    *square = answers::of_lines(lines);
+    *answer = answers::of_refusal(given.refusal);
+}

@@ -1,4 +1,0 @@
--- The laws behind the C functions.
-pub mod Lists
-pub mod Outcomes
-pub mod Determined

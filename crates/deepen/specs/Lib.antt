@@ -1,2 +1,0 @@
--- What one depth further is.
-pub mod Step

@@ -1,2 +1,0 @@
--- The laws of the parts of an entry.
-pub mod Parts

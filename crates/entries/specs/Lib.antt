@@ -1,3 +1,0 @@
--- What stands in the contents of a task file, and what its kinds are.
-pub mod Kinds
-pub mod Entries

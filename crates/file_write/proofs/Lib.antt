@@ -1,0 +1,2 @@
+-- The laws of writing a file from its sources.
+pub mod Sources

@@ -1,0 +1,3 @@
+-- What a file is written from.
+pub mod Sources
+pub mod Parts

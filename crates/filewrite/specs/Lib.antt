@@ -1,2 +1,0 @@
--- What the new file is written from.
-pub mod Runs

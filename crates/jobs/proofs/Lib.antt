@@ -1,7 +1,0 @@
--- Why the passes over a job and over a row leave what they promise.
-pub mod Tally
-pub mod Told
-pub mod Trimmed
-pub mod Done
-pub mod Row
-pub mod Determined

@@ -1,0 +1,2 @@
+-- What the map of depth 1 is worked out from.
+pub mod Columns

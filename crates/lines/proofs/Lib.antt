@@ -1,4 +1,0 @@
--- The laws of decimal numbers and of texts written one after the other, and the one outcome of each function.
-pub mod Decimals
-pub mod Puts
-pub mod Determined

@@ -1,3 +1,0 @@
--- The laws of what loops leave in lists.
-pub mod Overs
-pub mod Tabled

@@ -1,3 +1,0 @@
--- What a loop leaves in a lent list.
-pub mod Over
-pub mod Filled

@@ -1,2 +1,0 @@
--- What the statement over the marked tables says of the rules, and of the judge.
-pub mod Rules

@@ -1,0 +1,2 @@
+-- The laws of refusals in an order.
+pub mod Order

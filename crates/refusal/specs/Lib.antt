@@ -1,0 +1,3 @@
+-- What a refusal is, and which of several is given.
+pub mod Refusal
+pub mod Order

@@ -1,0 +1,3 @@
+-- What the statement over the marked tables says of the rules, and of the judge.
+pub mod Computed
+pub mod Rules
