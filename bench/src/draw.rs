@@ -5,7 +5,7 @@ use outside::answers::{Given, Row, Table};
 use outside::random::Random;
 
 /// The number of rows, processors, depth and frame; the frame is a power of two.
-#[derive(Clone, Copy, Debug)]
+#[derive(Clone, Copy, Debug, PartialEq, Eq)]
 pub struct Shape {
     pub rows: usize,
     pub m: usize,

@@ -1,5 +1,7 @@
-//! Measures judge and ladder: the static library, plain Rust and the literal algorithm, in one run on the same tables.
+//! Measures judge and ladder in one run on the same tables: the static library, plain Rust and the literal algorithm, or the
+//! static library, that of an earlier commit and plain Rust.
 
+mod against;
 mod agree;
 mod clock;
 mod draw;
@@ -7,29 +9,39 @@ mod fast;
 mod literal;
 mod measure;
 mod report;
+#[cfg(test)]
+#[path = "../server/serve.rs"]
+mod serve;
+mod tree;
+mod wire;
 
 use agree::agree;
 use draw::{is_undecided, table, Shape, TRIES};
-use measure::{median, times, Call, Contender, Lists};
+use measure::{median, times, Contender, Lists};
 use outside::answers::Given;
 use report::{line, micro, ratio};
 use std::path::PathBuf;
 use std::process::ExitCode;
+use tree::Failure;
+use wire::Call;
 
 const USAGE: &str = "usage: bench [--quick] [--write FILE]
---quick       fewer tables and samples
---write FILE  puts the result between the marker lines of FILE";
+       bench [--quick] --root FOLDER --against COMMIT
+--quick           fewer tables and samples
+--write FILE      puts the result between the marker lines of FILE
+--against COMMIT  measures the library of the tree at FOLDER against that of an earlier commit";
 
 /// How much is measured.
 struct Plan {
     seeds: u64,
     samples: usize,
-    write: Option<PathBuf>,
 }
 
 fn contenders() -> Vec<Contender> {
-    let fast = Contender { name: "plain Rust", judge: fast::judge::<false>, ladder: fast::ladder::<false>, sample: 0.002 };
-    let windows = Contender { name: "by windows", judge: fast::judge::<true>, ladder: fast::ladder::<true>, sample: 0.002 };
+    let fast =
+        Contender { name: "plain Rust", judge: fast::judge::<false>, ladder: fast::ladder::<false>, sample: 0.002 };
+    let windows =
+        Contender { name: "by windows", judge: fast::judge::<true>, ladder: fast::ladder::<true>, sample: 0.002 };
     let literal = Contender { name: "literal", judge: literal::judge, ladder: literal::ladder, sample: 0.0 };
     #[cfg(feature = "library")]
     {
@@ -101,6 +113,14 @@ fn growing_rows() -> Vec<(Call, Shape)> {
     rows.iter().map(|&rows| (Call::Judge, Shape { rows, m: rows.div_ceil(2), x: 8, frame: 4096 })).collect()
 }
 
+fn parts() -> Vec<(&'static str, Vec<(Call, Shape)>)> {
+    vec![
+        ("Full frames", full_frames()),
+        ("Growth with the frame", growing_frames()),
+        ("Growth with the rows", growing_rows()),
+    ]
+}
+
 fn run(plan: &Plan) -> Result<String, String> {
     let contenders = contenders();
     let mut text = format!(
@@ -109,12 +129,7 @@ fn run(plan: &Plan) -> Result<String, String> {
          tables are undecided at depth 8.\n",
         std::env::consts::ARCH, plan.seeds, plan.samples
     );
-    let parts = [
-        ("Full frames", full_frames()),
-        ("Growth with the frame", growing_frames()),
-        ("Growth with the rows", growing_rows()),
-    ];
-    for (name, shapes) in parts {
+    for (name, shapes) in parts() {
         let head = format!("\n### {name}\n\n{}", heading(&contenders));
         print!("{head}");
         text += &head;
@@ -127,33 +142,76 @@ fn run(plan: &Plan) -> Result<String, String> {
     Ok(text + "\n")
 }
 
-fn plan() -> Option<Plan> {
-    let mut plan = Plan { seeds: 5, samples: 7, write: None };
-    let mut words = std::env::args().skip(1);
+/// What the words ask for.
+#[derive(Debug, PartialEq, Eq)]
+enum Wanted {
+    Measured { quick: bool, write: Option<PathBuf> },
+    Against { quick: bool, root: PathBuf, commit: String },
+}
+
+fn wanted(mut words: impl Iterator<Item = String>) -> Option<Wanted> {
+    let (mut quick, mut write, mut root, mut commit) = (false, None, None, None);
     while let Some(word) = words.next() {
         match word.as_str() {
-            "--quick" => (plan.seeds, plan.samples) = (2, 3),
-            "--write" => plan.write = Some(words.next()?.into()),
+            "--quick" => quick = true,
+            "--write" => write = Some(words.next()?.into()),
+            "--root" => root = Some(words.next()?.into()),
+            "--against" => commit = Some(words.next()?),
             _ => return None,
         }
     }
-    Some(plan)
+    match (write, root, commit) {
+        (write, None, None) => Some(Wanted::Measured { quick, write }),
+        (None, Some(root), Some(commit)) => Some(Wanted::Against { quick, root, commit }),
+        _ => None,
+    }
+}
+
+fn done(wanted: Wanted) -> Result<(), Failure> {
+    match wanted {
+        Wanted::Measured { quick, write } => {
+            let (seeds, samples) = if quick { (2, 3) } else { (5, 7) };
+            let text = run(&Plan { seeds, samples })?;
+            Ok(write.map_or(Ok(()), |path| report::write_between(&path, &text))?)
+        }
+        Wanted::Against { quick, root, commit } => {
+            let (seeds, samples) = if quick { (2, 3) } else { (5, 3) };
+            let parts = parts().into_iter().take(if quick { 1 } else { 3 }).collect();
+            against::run(&root, &commit, &against::Plan { seeds, samples, parts })
+        }
+    }
 }
 
 fn main() -> ExitCode {
-    let Some(plan) = plan() else {
+    let Some(wanted) = wanted(std::env::args().skip(1)) else {
         eprintln!("{USAGE}");
         return ExitCode::from(2);
     };
-    let done = run(&plan).and_then(|text| match &plan.write {
-        Some(path) => report::write_between(path, &text),
-        None => Ok(()),
-    });
-    match done {
-        Ok(()) => ExitCode::SUCCESS,
-        Err(message) => {
-            eprintln!("{message}");
-            ExitCode::FAILURE
+    let (message, status) = match done(wanted) {
+        Ok(()) => return ExitCode::SUCCESS,
+        Err(Failure::Commit(message)) => (message, 2),
+        Err(Failure::Other(message)) => (message, 1),
+    };
+    eprintln!("bench: {message}");
+    ExitCode::from(status)
+}
+
+#[cfg(test)]
+mod tests {
+    use super::*;
+
+    #[test]
+    fn the_words_say_what_is_wanted() {
+        let wanted = |words: &str| wanted(words.split_whitespace().map(String::from));
+        assert_eq!(wanted(""), Some(Wanted::Measured { quick: false, write: None }));
+        let written = Some(Wanted::Measured { quick: true, write: Some("FILE".into()) });
+        assert_eq!(wanted("--write FILE --quick"), written);
+        let against = Some(Wanted::Against { quick: true, root: "ROOT".into(), commit: "COMMIT".into() });
+        assert_eq!(wanted("--root ROOT --quick --against COMMIT"), against);
+        assert_eq!(wanted("--root ROOT --against COMMIT --quick"), against);
+        let others = ["--root ROOT --against", "--against COMMIT", "--root ROOT", "--write", "--slow", "COMMIT"];
+        for words in others.into_iter().chain(["--root ROOT --against COMMIT --write FILE"]) {
+            assert_eq!(wanted(words), None, "{words}");
         }
     }
 }

@@ -1,6 +1,7 @@
 //! Times of calls: each contender in turn, several times over, and the median of what each took.
 
 use crate::clock;
+use crate::wire::Call;
 use outside::answers::{Given, Judged, Ladder};
 use std::hint::black_box;
 
@@ -11,12 +12,6 @@ pub struct Contender {
     pub ladder: fn(&Given, &mut [u32], &mut [u32]) -> Ladder,
     /// The least seconds that one sample takes; 0 for one call a sample.
     pub sample: f64,
-}
-
-#[derive(Clone, Copy, PartialEq)]
-pub enum Call {
-    Judge,
-    Ladder,
 }
 
 pub struct Lists {
