@@ -13,7 +13,7 @@ use Rattle.file_check.specs.declared.Found.{Found}
 use Rattle.file_put.specs.Put.{putOf, putOut}
 use Rattle.c_numbers.specs.Lent.{numbersOf}
 use Rattle.c_numbers.specs.Answers.{refusalAnswer, judgeAnswer, linesAnswer, putAnswer}
-use Rattle.table.specs.Limits.{mostDepths}
+use Rattle.table_row.specs.Limits.{mostDepths}
 
 -- the judge: its numbers, and both lists as it leaves them
 pub record Judges (t : Table) (map pins map′ pins′ answer : List ℕ) : Type 0 where

@@ -12,8 +12,8 @@ use c_numbers::lent;
 use judge_scan::Line;
 use sets::Set;
 use table::Beside;
-use table::Row;
-use table::limits::DEPTHS;
+use table_row::Row;
+use table_row::limits::DEPTHS;
 
 // The check of a table: no, entry, row, frame.
 #[no_mangle]

@@ -1,7 +1,7 @@
 // The text of the shift check for C.
 ghost use Rattle.text_shift.specs.Shift.{Shifted};
 use sets::Set;
-use table::limits::SLOTS;
+use table_row::limits::SLOTS;
 use text_shift::TEXT;
 
 // Writes the text of a file, and gives its length.

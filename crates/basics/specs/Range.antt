@@ -4,5 +4,5 @@ use Prim.Native.Nat.{ℕ}
 use lib.Dec.{leb}
 
 -- whether x is low to high
-abbrev pub inside : ℕ → ℕ → ℕ → Bool
+unfoldable pub inside : ℕ → ℕ → ℕ → Bool
 inside low x high = leb low x && leb x high

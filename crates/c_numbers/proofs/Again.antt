@@ -5,14 +5,14 @@ use Prim.Native.Nat.{ℕ, zero, suc, _≤_, _<_}
 use native.Mathlib.Omega.{arith}
 use lib.ListN.{length, getD, take, drop}
 use lib.Seq.{take-all, take-suc}
-use Rattle.table.specs.declared.Row.{Row}
+use Rattle.table_row.specs.declared.Row.{Row}
 use Rattle.table.specs.declared.Table.{Table}
-use Rattle.table.specs.Rows.{noRow}
+use Rattle.table_row.specs.Row.{noRow}
 use Rattle.table.specs.Rows.{rowsBy}
 use Rattle.c_numbers.specs.Lent.{lentRow, lentRows, lentTable, threes, numbersOf}
 use Rattle.c_numbers.proofs.Table.{T, C, D}
 use Rattle.c_numbers.proofs.Threes.{first-at, second-at, third-at}
-use Rattle.table.specs.Limits.{mostRows}
+use Rattle.table_row.specs.Limits.{mostRows}
 
 row-again : (l : List Row) (i : ℕ) → i < length l → lentRow (threes T C D l) i ≡ getD l i noRow
 unfolding lentRow

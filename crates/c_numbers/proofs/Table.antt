@@ -4,13 +4,14 @@ use mathlib.Core.List.{List}
 use Prim.Native.Nat.{ℕ, suc, _+_, _*_, _≤_, _<_}
 use native.Mathlib.Omega.{arith}
 use lib.ListN.{length, getD, set}
-use Rattle.table.specs.declared.Row.{Row}
+use Rattle.table_row.specs.declared.Row.{Row}
 use Rattle.table.specs.declared.Table.{Table}
-use Rattle.table.specs.Rows.{noRow, rowAt}
+use Rattle.table_row.specs.Row.{noRow}
+use Rattle.table.specs.Rows.{rowAt}
 use Rattle.c_numbers.specs.Lent.{threes, numbersOf}
 use Rattle.c_numbers.proofs.Upto.{Upto, upto-none, upto-three, upto-all}
 use Rattle.c_numbers.proofs.Threes.{length-threes, first-at, second-at, third-at}
-use Rattle.table.specs.Limits.{mostRows}
+use Rattle.table_row.specs.Limits.{mostRows}
 
 abbrev pub T : Row → ℕ
 T r = r .period

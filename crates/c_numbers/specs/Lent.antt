@@ -2,10 +2,11 @@
 use Prim.Native.Nat.{ℕ, _+_, _*_}
 use mathlib.Core.List.{List, [], _∷_}
 use lib.ListN.{getD}
-use Rattle.table.specs.declared.Row.{Row}
+use Rattle.table_row.specs.declared.Row.{Row}
 use Rattle.table.specs.declared.Table.{Table}
-use Rattle.table.specs.Limits.{mostRows}
-use Rattle.table.specs.Rows.{rowBy, beside, tableBy, rowsBy}
+use Rattle.table_row.specs.Limits.{mostRows}
+use Rattle.table_row.specs.Row.{rowBy}
+use Rattle.table.specs.Rows.{beside, tableBy, rowsBy}
 
 -- a row from its numbers
 abbrev pub rowGiven : ℕ → ℕ → ℕ → Row

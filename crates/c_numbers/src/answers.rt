@@ -13,7 +13,7 @@ use judge_scan::Line;
 use refusal::Refusal;
 use table::Checked;
 use table::Seen;
-use table::limits::DEPTHS;
+use table_row::limits::DEPTHS;
 
 // How many numbers the ladder's square has: three a depth.
 pub const SQUARE: usize = 3 * DEPTHS;

@@ -2,12 +2,12 @@
 ghost use mathlib.Core.Path.{_≡_};
 ghost use Prim.Native.Nat.{_<_};
 ghost use lib.ListN.{getD};
-ghost use Rattle.table.specs.Limits.{mostRows};
+ghost use Rattle.table_row.specs.Limits.{mostRows};
 ghost use Rattle.c_numbers.specs.Lent.{rowGiven, lentRow, lentRows, lentTable, numbersOf};
 use basics::widths;
-use table::Row;
 use table::Table;
-use table::limits::ROWS;
+use table_row::Row;
+use table_row::limits::ROWS;
 
 // How many numbers stand before the rows: m, x and the count; and how many a row has: T, C and D.
 const HEAD: usize = 3;
@@ -28,7 +28,7 @@ fn number(l: &[u16], k: usize) -> u16
 pub fn row_given(period: u16, execution: u16, deadline: u16) -> Row
     ensures { λ r. ⌜ r ≡ rowGiven period execution deadline ⌝ }
 {
-    let mut row = table::no_row();
+    let mut row = table_row::no_row();
     row.period = period;
     row.execution = execution;
     row.deadline = deadline;

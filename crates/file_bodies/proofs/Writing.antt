@@ -7,10 +7,10 @@ use native.Mathlib.Omega.{arith}
 use mathlib.Core.List.{List, [], _∷_, _++_, append-assoc, append-nil}
 use lib.ListN.{length, take, getD, set}
 use lib.Seq.{take-suc, take-all, length-take-le}
-use Rattle.table.specs.declared.Row.{Row}
+use Rattle.table_row.specs.declared.Row.{Row}
 use Rattle.table.specs.declared.Table.{Table}
-use Rattle.table.specs.Limits.{mostRows}
-use Rattle.table.specs.Rows.{noRow}
+use Rattle.table_row.specs.Limits.{mostRows}
+use Rattle.table_row.specs.Row.{noRow}
 use Rattle.file_bytes.specs.Over.{over}
 use Rattle.file_bytes.proofs.Overs.{over-over, next-over, set-over, over-byte}
 use Rattle.file_bodies.specs.Layout.{bodyHead, rowLength, rowPlace, bodyLength, mostBody}

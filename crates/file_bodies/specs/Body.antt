@@ -2,10 +2,11 @@
 use Prim.Native.Nat.{ℕ, min}
 use mathlib.Core.List.{List, [], _∷_, _++_}
 use lib.ListN.{take}
-use Rattle.table.specs.declared.Row.{Row}
+use Rattle.table_row.specs.declared.Row.{Row}
 use Rattle.table.specs.declared.Table.{Table}
-use Rattle.table.specs.Limits.{mostRows}
-use Rattle.table.specs.Rows.{rowBy, fieldsOf, roomBy, beside, tableBy}
+use Rattle.table_row.specs.Limits.{mostRows}
+use Rattle.table_row.specs.Row.{rowBy, fieldsOf}
+use Rattle.table.specs.Rows.{roomBy, beside, tableBy}
 use Rattle.file_bytes.specs.Number.{at16, bytes16}
 use Rattle.file_entries.specs.Entries.{bodyAt}
 use Rattle.file_bodies.specs.Layout.{fieldPlace, processorsIn, depthIn, countIn}

@@ -2,7 +2,7 @@
 ghost use Rattle.basics.specs.Cast.{Cast};
 ghost use Rattle.file_bodies.specs.Layout.{rowPlace};
 use basics::widths;
-use table::limits::ROWS;
+use table_row::limits::ROWS;
 
 // "m, x, the row count and a zero byte".
 pub const HEAD: usize = 4;

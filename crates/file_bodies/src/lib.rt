@@ -2,7 +2,7 @@
 ghost use mathlib.Core.Path.{_≡_};
 ghost use Prim.Native.Nat.{min, _+_, _≤_, _<_};
 ghost use lib.ListN.{length, take, replicate};
-ghost use Rattle.table.specs.Limits.{mostRows};
+ghost use Rattle.table_row.specs.Limits.{mostRows};
 ghost use Rattle.table.specs.Rows.{roomBy};
 ghost use Rattle.file_bytes.specs.Over.{over};
 ghost use Rattle.file_bodies.specs.Layout.{bodyHead, rowLength, mostBody};
@@ -11,9 +11,9 @@ ghost use Rattle.file_bodies.specs.Refusal.{bodyRefusal};
 use basics::ranges;
 use basics::widths;
 use refusal::Refusal;
-use table::Row;
 use table::Table;
-use table::limits::ROWS;
+use table_row::Row;
+use table_row::limits::ROWS;
 
 pub mod layout;
 
@@ -38,7 +38,7 @@ fn read_row(b: &[u8], i: u8) -> Row
     ensures { λ r. ⌜ r ≡ rowOf (now (b .entry)) i ⌝ }
 {
     let at = layout::row_place(i);
-    let mut row = table::no_row();
+    let mut row = table_row::no_row();
     row.period = file_bytes::le16(b, at);
     row.execution = file_bytes::le16(b, at + FIELD);
     row.deadline = file_bytes::le16(b, at + 2 * FIELD);
@@ -50,7 +50,7 @@ fn read_rows(b: &[u8], n: u8) -> [Row; ROWS]
     requires { ⌜ n ≤ mostRows ⌝ }
     ensures { λ r. ⌜ r ≡ roomBy (rowOf (now (b .entry))) n ⌝ }
 {
-    let none = table::no_row();
+    let none = table_row::no_row();
     let mut rows = [none; ROWS];
     let mut i: u8 = 0;
     while i < n {

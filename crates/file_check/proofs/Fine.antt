@@ -10,7 +10,7 @@ use Rattle.refusal.specs.Refusal.{refuse, none, inEntry}
 use Rattle.file_bytes.specs.Sum.{sumOf}
 use Rattle.basics.specs.When.{when, unless}
 use Rattle.refusal.specs.Order.{inTurn}
-use Rattle.file_entries.specs.Kinds.{kindOf, isTable}
+use Rattle.file_kinds.specs.Kinds.{kindOf, isTable}
 use Rattle.file_entries.specs.Entries.{countOf, kindAt, sumAt, bodyAt, seekOf}
 use Rattle.file_entries.proofs.Under.{under-is}
 use Rattle.file_contents.specs.Contents.{contentsRefusal}

@@ -9,7 +9,7 @@ use Rattle.table.specs.Rows.{noTable}
 use Rattle.file_bytes.specs.Sum.{sumOf}
 use Rattle.basics.specs.When.{when, unless}
 use Rattle.refusal.specs.Order.{inTurn}
-use Rattle.file_entries.specs.Kinds.{kindOf, isTable}
+use Rattle.file_kinds.specs.Kinds.{kindOf, isTable}
 use Rattle.file_entries.specs.Entries.{countOf, kindAt, sumAt, bodyAt, seekOf}
 use Rattle.file_contents.specs.Contents.{contentsRefusal}
 use Rattle.refusal.proofs.Order.{first-next, first-here}

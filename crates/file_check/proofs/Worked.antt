@@ -2,19 +2,21 @@
 use mathlib.Core.Path.{_≡_, refl}
 use Prim.Native.Nat.{ℕ}
 use mathlib.Core.List.{List, [], _∷_}
-use Rattle.table.specs.declared.Row.{Row}
+use Rattle.basics.specs.Range.{inside}
+use Rattle.table_row.specs.declared.Row.{Row}
 use Rattle.table.specs.declared.Table.{Table}
 use Rattle.table.specs.Rows.{rowsBy, roomBy, beside, tableOf}
-use Rattle.table.specs.Check.{checkOf, checkRows, checkEach, checkFrame, rowRefusal, faulty}
+use Rattle.table_row.specs.Row.{rowRefusal, faulty}
+use Rattle.table.specs.Check.{checkOf, checkRows, checkEach, checkFrame}
 use Rattle.refusal.specs.Refusal.{none}
 use Rattle.table.specs.Frame.{frameOf, overAt}
 use Rattle.basics.specs.Least.{least, leastFrom}
-use Rattle.table.specs.Divisor.{divisor, divisorIn, multiple}
+use Rattle.table_row.specs.Divisor.{divisor, divisorIn, multiple}
 use Rattle.file_bytes.specs.Number.{at16, at32}
 use Rattle.file_bytes.specs.Sum.{sumOf, sumFrom}
 use Rattle.basics.specs.When.{when, unless}
 use Rattle.refusal.specs.Order.{first, inTurn}
-use Rattle.file_entries.specs.Kinds.{kindOf}
+use Rattle.file_kinds.specs.Kinds.{kindOf}
 use Rattle.file_entries.specs.Entries.{countOf, formOf, kindAt, numberAt, startAt, lengthAt, sumAt, bodyAt, placeOf, seekIn, kindUnder}
 use Rattle.file_contents.specs.Contents.{headRefusal, entryRefusal, leftOver, contentsRefusal}
 use Rattle.file_bodies.specs.Body.{rowOf, bodyTable, tableAt}
@@ -36,9 +38,9 @@ unfoldable pub table : Table
 table = tableOf (beside 2 1) (row 2 1 1 ∷ row 3 2 2 ∷ row 4 2 3 ∷ [])
 
 pub worked-checked : checkFile worked ≡ numbers (Entries 1)
-unfolding worked checkFile fileRefusal partRefusal bodyRefusal bodyTable roomBy rowsBy rowOf contentsRefusal headRefusal entryRefusal leftOver when unless first inTurn kindOf countOf formOf kindAt numberAt startAt lengthAt sumAt bodyAt placeOf seekIn at16 at32 sumOf sumFrom least leastFrom checkOf checkRows checkEach checkFrame rowRefusal faulty frameOf overAt divisor divisorIn multiple
+unfolding worked checkFile fileRefusal partRefusal bodyRefusal bodyTable roomBy rowsBy rowOf contentsRefusal headRefusal entryRefusal leftOver when unless first inTurn kindOf countOf formOf kindAt numberAt startAt lengthAt sumAt bodyAt placeOf seekIn at16 at32 sumOf sumFrom least leastFrom checkOf checkRows checkEach checkFrame rowRefusal faulty frameOf overAt divisor divisorIn multiple inside
 worked-checked = refl
 
 pub worked-found : findOf worked 7 ≡ record { refusal = none; table = table }
-unfolding worked table findOf findRefusal kindUnder tableAt fileRefusal partRefusal bodyRefusal bodyTable roomBy rowsBy rowOf contentsRefusal headRefusal entryRefusal leftOver when unless first inTurn kindOf countOf formOf kindAt numberAt startAt lengthAt sumAt bodyAt placeOf seekIn at16 at32 sumOf sumFrom least leastFrom checkOf checkRows checkEach checkFrame rowRefusal faulty frameOf overAt divisor divisorIn multiple
+unfolding worked table findOf findRefusal kindUnder tableAt fileRefusal partRefusal bodyRefusal bodyTable roomBy rowsBy rowOf contentsRefusal headRefusal entryRefusal leftOver when unless first inTurn kindOf countOf formOf kindAt numberAt startAt lengthAt sumAt bodyAt placeOf seekIn at16 at32 sumOf sumFrom least leastFrom checkOf checkRows checkEach checkFrame rowRefusal faulty frameOf overAt divisor divisorIn multiple inside
 worked-found = refl

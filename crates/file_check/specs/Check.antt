@@ -8,7 +8,7 @@ use Rattle.refusal.specs.Refusal.{refuse, none, inEntry}
 use Rattle.file_bytes.specs.Sum.{sumOf}
 use Rattle.basics.specs.When.{when, unless}
 use Rattle.refusal.specs.Order.{first, inTurn}
-use Rattle.file_entries.specs.Kinds.{kindOf, isTable}
+use Rattle.file_kinds.specs.Kinds.{kindOf, isTable}
 use Rattle.file_entries.specs.Entries.{countOf, kindAt, sumAt, bodyAt}
 use Rattle.file_contents.specs.Contents.{contentsRefusal}
 use Rattle.file_bodies.specs.Refusal.{bodyRefusal}

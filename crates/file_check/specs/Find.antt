@@ -8,7 +8,7 @@ use Rattle.refusal.specs.Refusal.{refuse, none}
 use Rattle.table.specs.Rows.{noTable}
 use Rattle.basics.specs.When.{unless}
 use Rattle.refusal.specs.Order.{first}
-use Rattle.file_entries.specs.Kinds.{isTable}
+use Rattle.file_kinds.specs.Kinds.{isTable}
 use Rattle.file_entries.specs.Entries.{seekOf, kindUnder}
 use Rattle.file_bodies.specs.Body.{tableAt}
 use Rattle.file_check.specs.declared.Found.{Found}

@@ -29,7 +29,7 @@ fn part_refusal(s: &[u8], i: u16) -> Refusal
     if file_bytes::body_sum(b) != file_entries::sum_at(s, i) {
         return refusal::refuse(14);
     }
-    if file_entries::is_table(file_entries::kind_of(file_entries::kind_at(s, i))) {
+    if file_kinds::is_table(file_kinds::kind_of(file_entries::kind_at(s, i))) {
         return file_bodies::body_refusal(b);
     }
     refusal::none()
@@ -81,7 +81,7 @@ fn find_refusal(s: &[u8], number: u16) -> Refusal
     if r.no != 0 {
         return r;
     }
-    if file_entries::is_table(file_entries::kind_under(s, number)) {
+    if file_kinds::is_table(file_entries::kind_under(s, number)) {
         return refusal::none();
     }
     refusal::refuse(17)

@@ -12,7 +12,7 @@ use Rattle.basics.specs.Range.{inside}
 use Rattle.basics.specs.When.{when, unless}
 use Rattle.refusal.specs.Order.{inTurn}
 use Rattle.file_entries.specs.Limits.{mostEntries, mostBytes, theForm, headBytes, afterEntries}
-use Rattle.file_entries.specs.Kinds.{kindOf, isRefused}
+use Rattle.file_kinds.specs.Kinds.{kindOf, isRefused}
 use Rattle.file_entries.specs.Entries.{countOf, formOf, kindAt, numberAt, startAt, lengthAt, placeOf, seekIn}
 use Rattle.file_contents.specs.Contents.{headRefusal, entryRefusal, leftOver, entriesRefusal, contentsRefusal}
 use Rattle.refusal.proofs.Order.{first-next, first-here, turn-fine, turn-here}

@@ -9,7 +9,7 @@ use Rattle.basics.specs.Range.{inside}
 use Rattle.basics.specs.When.{when, unless}
 use Rattle.refusal.specs.Order.{first, inTurn}
 use Rattle.file_entries.specs.Limits.{mostEntries, mostBytes, theForm, headBytes, afterEntries}
-use Rattle.file_entries.specs.Kinds.{kindOf, isRefused}
+use Rattle.file_kinds.specs.Kinds.{kindOf, isRefused}
 use Rattle.file_entries.specs.Entries.{countOf, formOf, kindAt, numberAt, startAt, lengthAt, placeOf, seekIn}
 
 -- 9: "file under 4 or over 65,535 bytes"; 10: "form not 1"; 11: "n outside 1 to 64, or contents longer than the file"

@@ -38,7 +38,7 @@ fn entry_refusal(s: &[u8], i: u16, place: usize) -> u8
     requires { ⌜ (place ≡ placeOf (now s) i) × (place ≤ length (now s)) × (length (now s) ≤ mostBytes) ⌝ }
     ensures { λ r. ⌜ r ≡ entryRefusal (now (s .entry)) i ⌝ }
 {
-    if file_entries::is_refused(file_entries::kind_of(file_entries::kind_at(s, i))) {
+    if file_kinds::is_refused(file_kinds::kind_of(file_entries::kind_at(s, i))) {
         return 12;
     }
     if widths::size_of_half(file_entries::start_at(s, i)) != place {

@@ -6,9 +6,9 @@ use mathlib.Core.List.{List}
 use lib.Dec.{ltb}
 use borrow.Author.Tests.{lt-ltb, le-ltb, ltb-true}
 use Rattle.basics.proofs.Bools.{clash}
-use Rattle.file_entries.specs.declared.Kind.{Kind}
-use Rattle.file_entries.specs.declared.Kind.the-variants.{Refused}
-use Rattle.file_entries.specs.Kinds.{kindOf}
+use Rattle.file_kinds.specs.declared.Kind.{Kind}
+use Rattle.file_kinds.specs.declared.Kind.the-variants.{Refused}
+use Rattle.file_kinds.specs.Kinds.{kindOf}
 use Rattle.file_entries.specs.Entries.{countOf, kindAt, seekOf, kindUnder}
 
 module _ (s : List ℕ) (number : ℕ) where

@@ -6,10 +6,10 @@ use lib.ListN.{take, drop}
 use lib.Dec.{ltb, eqb}
 use Rattle.basics.specs.Least.{least}
 use Rattle.file_bytes.specs.Number.{at16, at32}
-use Rattle.file_entries.specs.declared.Kind.{Kind}
-use Rattle.file_entries.specs.declared.Kind.the-variants.{Refused}
+use Rattle.file_kinds.specs.declared.Kind.{Kind}
+use Rattle.file_kinds.specs.declared.Kind.the-variants.{Refused}
 use Rattle.file_entries.specs.Limits.{afterEntries}
-use Rattle.file_entries.specs.Kinds.{kindOf}
+use Rattle.file_kinds.specs.Kinds.{kindOf}
 
 -- "Bytes 0 and 1: number of entries n"
 unfoldable pub countOf : List ℕ → ℕ

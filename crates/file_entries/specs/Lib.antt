@@ -1,4 +1,3 @@
--- What stands in the contents of a task file, and what its kinds are.
+-- What stands in the contents of a task file.
 pub mod Limits
-pub mod Kinds
 pub mod Entries

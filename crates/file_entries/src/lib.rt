@@ -1,66 +1,16 @@
-// What stands in the contents of a file, and what a kind number means. Every function answers for every file and every entry number.
+// What stands in the contents of a file. Every function answers for every file and every entry number.
 ghost use mathlib.Core.Path.{_≡_};
 ghost use Rattle.basics.specs.Cast.{Cast};
 ghost use Rattle.file_entries.specs.Limits.{afterEntries};
 ghost use Rattle.file_entries.specs.Entries.{countOf, formOf, kindAt, numberAt, startAt, lengthAt, sumAt, bodyAt, seekIn, seekOf, kindUnder};
-ghost use Rattle.file_entries.specs.Kinds.{kindOf, isTable, isNote, isRefused};
 use basics::ranges;
 use basics::widths;
+use file_kinds::Kind;
 
 pub mod limits;
 
 use limits::ENTRY;
 use limits::HEAD;
-
-// The kind number of a table.
-pub const TABLE: u16 = 1;
-
-// What a kind number says of an entry.
-pub enum Kind {
-    Table,
-    Note,
-    Refused,
-}
-
-pub fn kind_of(k: u16) -> Kind
-    ensures { λ r. ⌜ r ≡ kindOf k ⌝ }
-{
-    match k {
-        1 => Kind::Table,
-        128..=255 => Kind::Note,
-        _ => Kind::Refused,
-    }
-}
-
-pub fn is_table(k: Kind) -> bool
-    ensures { λ r. ⌜ r ≡ isTable k ⌝ }
-{
-    match k {
-        Kind::Table => true,
-        Kind::Note => false,
-        Kind::Refused => false,
-    }
-}
-
-pub fn is_note(k: Kind) -> bool
-    ensures { λ r. ⌜ r ≡ isNote k ⌝ }
-{
-    match k {
-        Kind::Table => false,
-        Kind::Note => true,
-        Kind::Refused => false,
-    }
-}
-
-pub fn is_refused(k: Kind) -> bool
-    ensures { λ r. ⌜ r ≡ isRefused k ⌝ }
-{
-    match k {
-        Kind::Table => false,
-        Kind::Note => false,
-        Kind::Refused => true,
-    }
-}
 
 pub fn count(s: &[u8]) -> u16
     ensures { λ r. ⌜ r ≡ countOf (now (s .entry)) ⌝ }
@@ -153,5 +103,5 @@ pub fn kind_under(s: &[u8], number: u16) -> Kind
     if count(s) <= i {
         return Kind::Refused;
     }
-    kind_of(kind_at(s, i))
+    file_kinds::kind_of(kind_at(s, i))
 }

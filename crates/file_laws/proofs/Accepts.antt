@@ -5,12 +5,12 @@ use Prim.Native.Nat.{ℕ, _≤_, _<_}
 use native.Mathlib.Omega.{arith}
 use mathlib.Core.List.{List}
 use lib.Dec.{eqb}
-use borrow.Author.Tests.{eqb-false, ne-eqb, le-leb}
-use Rattle.basics.proofs.Bools.{and-true}
+use borrow.Author.Tests.{eqb-false, ne-eqb}
+use Rattle.basics.proofs.Range.{inside-of}
 use Rattle.refusal.specs.declared.Refusal.{Refusal}
 use Rattle.refusal.specs.Refusal.{none, inEntry}
 use Rattle.basics.proofs.Least.{least-below, least-none}
-use Rattle.file_entries.specs.Kinds.{kindOf, isTable}
+use Rattle.file_kinds.specs.Kinds.{kindOf, isTable}
 use Rattle.file_entries.specs.Entries.{countOf, kindAt, numberAt, bodyAt, seekIn}
 use Rattle.file_contents.specs.Contents.{headRefusal, entryRefusal, entriesRefusal, contentsRefusal}
 use Rattle.refusal.proofs.Order.{first-next, turn-fine}
@@ -43,7 +43,7 @@ body-none b f = sym (ap code (body-table b (f .four) (f .zeroed) (f .long))) ∙
 
 module _ (s : List ℕ) where
   head-none : HeadFine s → headRefusal s ≡ 0
-  head-none h = sym (head-fine s (and-true (le-leb _ _ (h .four)) (le-leb _ _ (h .most))) (h .form) (and-true (le-leb _ _ (h .some)) (le-leb _ _ (h .few))) (h .room))
+  head-none h = sym (head-fine s (inside-of _ _ _ (h .four) (h .most)) (h .form) (inside-of _ _ _ (h .some) (h .few)) (h .room))
 
   entry-none : (i : ℕ) → EntryFine s i → entryRefusal s i ≡ 0
   entry-none i f = sym (entry-fine s i (f .kind) (f .start) (f .end) (f .fresh))

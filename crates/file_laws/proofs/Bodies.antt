@@ -6,9 +6,10 @@ use native.Mathlib.Omega.{arith}
 use mathlib.Core.List.{List, [], _∷_, _++_, append-assoc, append-nil}
 use lib.ListN.{length, take, drop, replicate}
 use lib.Seq.{take-at, drop-length}
-use Rattle.table.specs.declared.Row.{Row}
-use Rattle.table.specs.Limits.{mostRows}
-use Rattle.table.specs.Rows.{noRow, rowsBy, roomBy}
+use Rattle.table_row.specs.declared.Row.{Row}
+use Rattle.table_row.specs.Limits.{mostRows}
+use Rattle.table_row.specs.Row.{noRow}
+use Rattle.table.specs.Rows.{rowsBy, roomBy}
 use Rattle.table.proofs.Accepted.{accepted}
 use Rattle.file_bodies.specs.Layout.{bodyHead, rowLength, rowPlace, processorsIn, depthIn, countIn, zeroIn}
 use Rattle.file_bodies.specs.Body.{rowOf, bodyTable, fieldsBytes, rowBytes, rowsBytes, tableBytes}

@@ -11,9 +11,9 @@ use Rattle.basics.proofs.Bools.{clash}
 use Rattle.file_bytes.specs.Number.{bytes16}
 use Rattle.file_bytes.specs.Sum.{sumFrom, sumOf}
 use Rattle.file_entries.specs.Limits.{theForm, afterEntries}
-use Rattle.file_entries.specs.declared.Kind.{Kind}
+use Rattle.file_kinds.specs.declared.Kind.{Kind}
 use Rattle.basics.specs.When.{when}
-use Rattle.file_entries.specs.Kinds.{tableKind, kindOf, isRefused}
+use Rattle.file_kinds.specs.Kinds.{tableKind, kindOf, isRefused}
 use Rattle.file_contents.specs.File.{Entry, headOf, headsOf, bodiesOf, encode}
 use Rattle.file_contents.proofs.Files.{length-encode}
 use Rattle.file_laws.specs.Valid.{Bytes, ValidEntry, Each, ValidEntries}

@@ -11,8 +11,8 @@ use Rattle.basics.specs.Least.{leastFrom, least}
 use Rattle.refusal.specs.Refusal.{refuse, none}
 use Rattle.basics.specs.When.{unless}
 use Rattle.table.specs.Rows.{noTable}
-use Rattle.file_entries.specs.declared.Kind.{Kind}
-use Rattle.file_entries.specs.Kinds.{kindOf, isTable}
+use Rattle.file_kinds.specs.declared.Kind.{Kind}
+use Rattle.file_kinds.specs.Kinds.{kindOf, isTable}
 use Rattle.file_entries.specs.Entries.{countOf, kindAt, numberAt, seekIn, seekOf, kindUnder}
 use Rattle.file_contents.specs.File.{entryAt, entriesFrom, entriesOf}
 use Rattle.refusal.proofs.Order.{first-next}

@@ -9,8 +9,8 @@ use lib.Dec.{ltb}
 use Rattle.table.specs.declared.Table.{Table}
 use Rattle.file_entries.specs.Entries.{countOf, numberAt, seekOf}
 use Rattle.file_contents.specs.File.{Entry, entryAt, entriesOf}
-use Rattle.file_put.specs.Put.{tableEntry, newEntries, newFile}
-use Rattle.file_put.proofs.Entered.{entered-count}
+use Rattle.file_new.specs.New.{tableEntry, newEntries, newFile}
+use Rattle.file_new.proofs.Entered.{entered-count}
 use Rattle.file_laws.proofs.Entries.{length-entries, entry-of}
 use Rattle.file_laws.proofs.Laid.{entries-back}
 use Rattle.file_laws.proofs.Puts.{put-other, put-length}

@@ -15,7 +15,7 @@ use Rattle.basics.proofs.When.{when-passed, unless-passed}
 use Rattle.file_entries.specs.Limits.{mostEntries, mostBytes}
 use Rattle.table.specs.Check.{tableRefusal}
 use Rattle.file_check.specs.Check.{fileRefusal}
-use Rattle.file_put.specs.Put.{newEntries, newFile, noteHas, putRefusal}
+use Rattle.file_new.specs.New.{newEntries, newFile, noteHas, putRefusal}
 
 abbrev code : Refusal → ℕ
 code r = r .no

@@ -7,15 +7,15 @@ use mathlib.Core.List.{List, [], _∷_}
 use lib.Dec.{ltb, eqb}
 use borrow.Author.Tests.{eq-eqb, ne-eqb, eqb-true}
 use Rattle.table.specs.declared.Table.{Table}
-use Rattle.file_entries.specs.declared.Kind.{Kind}
+use Rattle.file_kinds.specs.declared.Kind.{Kind}
 use Rattle.basics.specs.When.{when}
-use Rattle.file_entries.specs.Kinds.{tableKind, kindOf, isTable}
+use Rattle.file_kinds.specs.Kinds.{tableKind, kindOf, isTable}
 use Rattle.file_contents.specs.File.{Entry, entryBy}
 use Rattle.file_bodies.specs.Body.{bodyTable, tableBytes}
 use Rattle.table.specs.Check.{tableRefusal}
 use Rattle.file_bodies.proofs.Refusals.{body-is-fine}
 use Rattle.file_check.specs.declared.Found.{Found}
-use Rattle.file_put.specs.Put.{tableEntry, putEntry}
+use Rattle.file_new.specs.New.{tableEntry, putEntry}
 use Rattle.file_laws.specs.Valid.{ValidEntry, Each}
 use Rattle.file_laws.specs.FindIn.{found, lost, findIn}
 use Rattle.file_laws.proofs.Bodies.{table-back}

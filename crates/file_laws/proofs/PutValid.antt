@@ -9,7 +9,7 @@ use lib.Dec.{eqb}
 use borrow.Author.Tests.{eqb-true, eqb-false}
 use Rattle.file_entries.specs.Limits.{mostEntries, mostBytes}
 use Rattle.file_contents.specs.File.{Entry, encode}
-use Rattle.file_put.specs.Put.{putEntry}
+use Rattle.file_new.specs.New.{putEntry}
 use Rattle.file_laws.specs.Valid.{ValidEntry, Each, Different, ValidEntries}
 
 put-some : (es : List Entry) (e : Entry) → 1 ≤ length (putEntry es e)

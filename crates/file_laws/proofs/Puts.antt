@@ -8,7 +8,7 @@ use lib.ListN.{length, getD}
 use lib.Dec.{eqb}
 use borrow.Author.Tests.{eq-eqb, ne-eqb}
 use Rattle.file_contents.specs.File.{Entry}
-use Rattle.file_put.specs.Put.{putEntry}
+use Rattle.file_new.specs.New.{putEntry}
 use Rattle.file_laws.specs.Valid.{Each}
 
 -- an entry of another number than e's

@@ -7,10 +7,10 @@ use lib.ListN.{length, drop}
 use borrow.Author.Tests.{le-leb}
 use Rattle.refusal.specs.Refusal.{none}
 use Rattle.file_entries.specs.Limits.{mostBytes}
-use Rattle.file_entries.specs.declared.Kind.{Kind}
+use Rattle.file_kinds.specs.declared.Kind.{Kind}
 use Rattle.basics.specs.When.{when, unless}
 use Rattle.refusal.specs.Order.{first}
-use Rattle.file_entries.specs.Kinds.{isTable, isNote}
+use Rattle.file_kinds.specs.Kinds.{isTable, isNote}
 use Rattle.file_entries.specs.Entries.{kindUnder}
 use Rattle.file_entries.proofs.Under.{under-entry}
 use Rattle.file_contents.specs.File.{encode, entriesOf}
@@ -21,7 +21,8 @@ use Rattle.file_check.specs.Check.{fileRefusal}
 use Rattle.file_check.specs.Find.{findOf}
 use Rattle.file_check.proofs.Fine.{FoundFine, found-is-fine}
 use Rattle.file_put.specs.declared.Written.{Written}
-use Rattle.file_put.specs.Put.{tableEntry, putEntry, newEntries, newFile, noteHas, putRefusal, putOf, putOut, Puts}
+use Rattle.file_new.specs.New.{tableEntry, putEntry, newEntries, newFile, noteHas, putRefusal}
+use Rattle.file_put.specs.Put.{putOf, putOut, Puts}
 use Rattle.file_laws.specs.Valid.{Bytes, ValidEntries}
 use Rattle.file_laws.proofs.Accepted.{file-back, file-valid}
 use Rattle.file_laws.proofs.Finds.{find-entries}

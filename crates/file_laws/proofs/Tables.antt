@@ -6,10 +6,11 @@ use native.Mathlib.Omega.{arith}
 use mathlib.Core.List.{List, [], _∷_, _++_}
 use lib.ListN.{length, take, drop, getD, replicate, List·getD-append}
 use lib.Seq.{take-suc, take-take, drop-drop, length-take-le, getD-take}
-use Rattle.table.specs.declared.Row.{Row}
+use Rattle.table_row.specs.declared.Row.{Row}
 use Rattle.table.specs.declared.Table.{Table}
-use Rattle.table.specs.Rows.{noRow, rowsBy, roomBy, besideOf, tableBy}
-use Rattle.table.specs.Limits.{mostRows}
+use Rattle.table_row.specs.Row.{noRow}
+use Rattle.table.specs.Rows.{rowsBy, roomBy, besideOf, tableBy}
+use Rattle.table_row.specs.Limits.{mostRows}
 use Rattle.table.specs.Check.{Numbers, checkOf, tableRefusal}
 use Rattle.table.specs.Meaning.{Accepted}
 use Rattle.table.proofs.Accepted.{accepted}

@@ -7,16 +7,17 @@ use lib.Seq.{take-append-seam}
 use borrow.Author.Tests.{eq-eqb}
 use Rattle.refusal.specs.declared.Refusal.{Refusal}
 use Rattle.table.specs.declared.Table.{Table}
-use Rattle.table.specs.Limits.{mostRows}
+use Rattle.table_row.specs.Limits.{mostRows}
 use Rattle.refusal.specs.Refusal.{none}
 use Rattle.basics.specs.When.{when}
-use Rattle.file_entries.specs.Kinds.{kindOf}
+use Rattle.file_kinds.specs.Kinds.{kindOf}
 use Rattle.file_contents.specs.File.{Entry, entriesOf}
 use Rattle.file_check.specs.declared.CheckedFile.the-variants.{Entries}
 use Rattle.file_check.specs.Check.{fileRefusal, numbers, checkFile}
 use Rattle.file_check.specs.Find.{findOf}
 use Rattle.file_put.specs.declared.Written.{Written}
-use Rattle.file_put.specs.Put.{tableEntry, newEntries, newFile, putRefusal, putOf, putOut, Puts}
+use Rattle.file_new.specs.New.{tableEntry, newEntries, newFile, putRefusal}
+use Rattle.file_put.specs.Put.{putOf, putOut, Puts}
 use Rattle.file_laws.specs.Valid.{Bytes, ValidEntry, ValidEntries}
 use Rattle.file_laws.specs.FindIn.{found, findIn, cleared}
 use Rattle.file_laws.proofs.Accepted.{file-valid, encode-fine}

@@ -8,10 +8,11 @@ use mathlib.Core.List.{List, _++_}
 use lib.ListN.{length, getD, replicate, length-replicate, getD-replicate, List·getD-eq-default}
 use lib.Seq.{getD-append-add}
 use lib.Dec.{eqb}
-use Rattle.table.specs.declared.Row.{Row}
+use Rattle.table_row.specs.declared.Row.{Row}
 use Rattle.table.specs.declared.Table.{Table}
-use Rattle.table.specs.Limits.{mostRows}
-use Rattle.table.specs.Rows.{noRow, rowAt, rowsBy, roomBy, noTable}
+use Rattle.table_row.specs.Limits.{mostRows}
+use Rattle.table_row.specs.Row.{noRow}
+use Rattle.table.specs.Rows.{rowAt, rowsBy, roomBy, noTable}
 use Rattle.file_bodies.specs.Layout.{countIn}
 use Rattle.file_bodies.specs.Body.{rowOf, bodyTable, tableAt}
 use Rattle.table.proofs.RowsBy.{length-rows}

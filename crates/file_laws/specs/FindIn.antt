@@ -6,9 +6,10 @@ use lib.ListN.{take, replicate}
 use lib.Dec.{eqb}
 use Rattle.table.specs.declared.Table.{Table}
 use Rattle.refusal.specs.Refusal.{refuse, none}
-use Rattle.table.specs.Limits.{mostRows}
-use Rattle.table.specs.Rows.{noRow, besideOf, tableBy, noTable}
-use Rattle.file_entries.specs.Kinds.{kindOf, isTable}
+use Rattle.table_row.specs.Limits.{mostRows}
+use Rattle.table_row.specs.Row.{noRow}
+use Rattle.table.specs.Rows.{besideOf, tableBy, noTable}
+use Rattle.file_kinds.specs.Kinds.{kindOf, isTable}
 use Rattle.file_contents.specs.File.{Entry}
 use Rattle.file_bodies.specs.Body.{bodyTable}
 use Rattle.file_check.specs.declared.Found.{Found}

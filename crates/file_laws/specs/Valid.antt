@@ -5,7 +5,7 @@ use Prim.Native.Nat.{ℕ, _≤_, _<_}
 use mathlib.Core.List.{List, [], _∷_}
 use lib.ListN.{length, getD}
 use Rattle.file_entries.specs.Limits.{mostEntries, mostBytes}
-use Rattle.file_entries.specs.Kinds.{kindOf, isTable, isRefused}
+use Rattle.file_kinds.specs.Kinds.{kindOf, isTable, isRefused}
 use Rattle.file_contents.specs.File.{Entry, encode}
 use Rattle.file_bodies.specs.Refusal.{bodyRefusal}
 

@@ -1,7 +1,4 @@
--- The laws of putting a table into a file: cases by computing, what is written, by which steps, with which answers, and what never matters.
-pub mod AtHand
-pub mod Entered
-pub mod Steps
+-- The laws of putting a table into a file: what is written, with which answers, and what never matters.
 pub mod Outcomes
 pub mod Determined
 pub mod Refused

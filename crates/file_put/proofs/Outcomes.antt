@@ -12,9 +12,9 @@ use Rattle.table.specs.declared.Table.{Table}
 use Rattle.file_bytes.specs.Over.{over}
 use Rattle.file_bytes.proofs.Overs.{over-start, take-over}
 use Rattle.basics.specs.Over.{Holds}
-use Rattle.table.specs.Limits.{mostRows}
+use Rattle.table_row.specs.Limits.{mostRows}
 use Rattle.file_entries.specs.Limits.{mostEntries}
-use Rattle.file_entries.specs.Kinds.{tableKind}
+use Rattle.file_kinds.specs.Kinds.{tableKind}
 use Rattle.file_entries.specs.Entries.{countOf, seekOf}
 use Rattle.file_contents.specs.File.{entryBy, encode}
 use Rattle.file_write.specs.Sources.{entriesBy}
@@ -22,10 +22,12 @@ use Rattle.file_bodies.specs.Layout.{bodyLength, mostBody}
 use Rattle.file_bodies.specs.Body.{tableBytes}
 use Rattle.file_bodies.proofs.Writing.{length-table}
 use Rattle.file_put.specs.declared.Written.{Written}
-use Rattle.file_put.specs.Put.{tableEntry, newEntries, newFile, putRefusal, putOf, putOut, Puts}
-use Rattle.file_put.specs.Writing.{sourceOf, newCount, earlyRefusal, lengthRefusal, writtenOf, writtenOver, Writes}
-use Rattle.file_put.proofs.Entered.{entered, entered-count}
-use Rattle.file_put.proofs.Steps.{put-early, put-late, length-is-fine}
+use Rattle.file_new.specs.New.{tableEntry, newEntries, newFile, putRefusal}
+use Rattle.file_put.specs.Put.{putOf, putOut, Puts}
+use Rattle.file_new.specs.Steps.{sourceOf, newCount, earlyRefusal, lengthRefusal}
+use Rattle.file_put.specs.Writing.{writtenOf, writtenOver, Writes}
+use Rattle.file_new.proofs.Entered.{entered, entered-count}
+use Rattle.file_new.proofs.Steps.{put-early, put-late, length-is-fine}
 
 abbrev no : Refusal → ℕ
 no r = r .no

@@ -15,18 +15,20 @@ use Rattle.refusal.specs.declared.Refusal.{Refusal}
 use Rattle.refusal.specs.Refusal.{refuse, none}
 use Rattle.refusal.specs.Order.{first}
 use Rattle.refusal.proofs.Order.{first-here, first-fine}
-use Rattle.table.specs.declared.Row.{Row}
+use Rattle.table_row.specs.declared.Row.{Row}
 use Rattle.table.specs.declared.Table.{Table}
-use Rattle.table.specs.Rows.{noRow, rowAt, Alike}
+use Rattle.table_row.specs.Row.{noRow}
+use Rattle.table.specs.Rows.{rowAt, Alike}
 use Rattle.table.specs.Check.{Numbers, checkOf, tableRefusal}
 use Rattle.table.proofs.Accepted.{accepted}
 use Rattle.table.proofs.Past.{past-the-count}
 use Rattle.file_entries.specs.Limits.{mostEntries, mostBytes}
-use Rattle.file_entries.specs.Kinds.{tableKind}
+use Rattle.file_kinds.specs.Kinds.{tableKind}
 use Rattle.file_contents.specs.File.{entryBy, encode, entriesOf}
 use Rattle.file_bodies.specs.Body.{rowsBytes, tableBytes}
 use Rattle.file_check.specs.Check.{fileRefusal}
-use Rattle.file_put.specs.Put.{putEntry, newEntries, newFile, noteHas, putRefusal, putOf, putOut}
+use Rattle.file_new.specs.New.{putEntry, newEntries, newFile, noteHas, putRefusal}
+use Rattle.file_put.specs.Put.{putOf, putOut}
 
 -- an accepted table has every row that it counts
 rows-there : (t : Table) → tableRefusal t .no ≡ 0 → (k : ℕ) → k ≤ t .count → k ≤ length (t .rows)

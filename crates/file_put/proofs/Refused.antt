@@ -6,7 +6,8 @@ use lib.ListN.{length}
 use borrow.Author.Tests.{ne-eqb}
 use Rattle.table.specs.declared.Table.{Table}
 use Rattle.file_put.specs.declared.Written.{Written}
-use Rattle.file_put.specs.Put.{putRefusal, putOf, putOut, Puts}
+use Rattle.file_new.specs.New.{putRefusal}
+use Rattle.file_put.specs.Put.{putOf, putOut, Puts}
 
 pub put-refused-unchanged : (s : List ℕ) (number : ℕ) (t : Table) (before after : List ℕ) (r : Written) → Puts s number t before after r → (r .refusal .no ≡ 0 → ⊥)
     → (after ≡ before) × (r .length ≡ 0)

@@ -18,11 +18,11 @@ use Rattle.judge_deepen.specs.Reached.{Reached}
 use Rattle.judge_scan.specs.declared.Line.{Line}
 use Rattle.judge_scan.specs.Lines.{noLine, lineOf}
 use Rattle.judge.specs.declared.Verdict.the-variants.{Infeasible, Undecided, Refused}
-use Rattle.judge.specs.Admit.{admitOf}
+use Rattle.judge_admit.specs.Admit.{admitOf}
 use Rattle.judge.specs.After.{mapAfter, pinsAfter}
 use Rattle.judge.specs.Judge.{given, numbers, infeasible, judgeOf, Judged}
 use Rattle.judge.specs.Passes.{verdictOf, Lined}
-use Rattle.judge.proofs.Admitted.{admitted, admit-rejected}
+use Rattle.judge_admit.proofs.Admitted.{admitted, admit-rejected}
 use Rattle.judge.proofs.Lines.{line-none}
 
 module _ (t : Table) (x : ℕ) (map pins : List ℕ) where

@@ -15,7 +15,7 @@ use Rattle.table.specs.Meaning.{Accepted}
 use Rattle.judge_scan.specs.Lines.{noLine}
 use Rattle.judge.specs.declared.Verdict.{Verdict}
 use Rattle.judge.specs.declared.Verdict.the-variants.{Infeasible, Undecided, Refused}
-use Rattle.judge.specs.Admit.{admitOf}
+use Rattle.judge_admit.specs.Admit.{admitOf}
 use Rattle.judge.specs.After.{unlessRefused, mapAfter, pinsAfter}
 use Rattle.judge.specs.Judge.{Numbers, given, numbers, infeasible, Judged}
 use Rattle.judge.proofs.Outcomes.{Given, Withheld, judge-outcome}

@@ -1,5 +1,4 @@
 -- The theorems about the judge.
-pub mod Admitted
 pub mod Lines
 pub mod Answers
 pub mod Outcomes

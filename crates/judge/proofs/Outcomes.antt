@@ -11,10 +11,10 @@ use Rattle.refusal.specs.Refusal.{none}
 use Rattle.table.specs.Meaning.{modelOf}
 use Rattle.table.proofs.Accepted.{Rejected}
 use Rattle.judge_scan.specs.Lines.{lineOf}
-use Rattle.judge.specs.Admit.{admitOf}
-use Rattle.judge.specs.Passes.{Admitted}
+use Rattle.judge_admit.specs.Admit.{admitOf}
+use Rattle.judge_admit.specs.Admit.{Admitted}
 use Rattle.judge.specs.Judge.{Numbers, given, withheld, judgeOf}
-use Rattle.judge.proofs.Admitted.{admit-outcome}
+use Rattle.judge_admit.proofs.Admitted.{admit-outcome}
 
 module _ (t : Table) (a b : ℕ) where
   -- a verdict, on the frame h

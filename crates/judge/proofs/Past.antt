@@ -15,7 +15,7 @@ use Rattle.model.specs.Failing.{leastFailing}
 use Rattle.model.proofs.Past.{SameRows, Agree, available-alike, pinned-at-alike, supply-alike, work-alike, least-alike}
 use Rattle.sets.specs.Word.{word, words}
 use Rattle.sets.proofs.Words.{word-ext}
-use Rattle.table.specs.declared.Row.{Row}
+use Rattle.table_row.specs.declared.Row.{Row}
 use Rattle.table.specs.declared.Table.{Table}
 use Rattle.table.specs.declared.Beside.{Beside}
 use Rattle.table.specs.Rows.{Alike}
@@ -24,7 +24,7 @@ use Rattle.table.specs.Meaning.{modelOf}
 use Rattle.table.proofs.Past.{past-the-count}
 use Rattle.judge_scan.specs.declared.Line.{Line}
 use Rattle.judge_scan.specs.Lines.{noLine, lineOf, lineAt}
-use Rattle.judge.specs.Admit.{longEnough, admitOf}
+use Rattle.judge_admit.specs.Admit.{longEnough, admitOf}
 use Rattle.judge.specs.After.{unlessRefused, mapAfter, pinsAfter}
 use Rattle.judge.specs.Judge.{Numbers, given, withheld, judgeOf}
 

@@ -10,7 +10,7 @@ use Rattle.table.specs.declared.Table.{Table}
 use Rattle.table.specs.Check.{Numbers}
 use Rattle.table.specs.Meaning.{modelOf}
 use Rattle.sets.specs.Word.{words}
-use Rattle.judge.specs.Admit.{admitOf}
+use Rattle.judge_admit.specs.Admit.{admitOf}
 
 -- "Every refusal leaves all lent memory untouched"; else the first H words of the list are those of a rule, and "Words from H on are unchanged"
 abbrev pub unlessRefused : Numbers → (ℕ → ℕ) → List ℕ → List ℕ

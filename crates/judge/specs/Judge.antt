@@ -13,7 +13,7 @@ use Rattle.judge_scan.specs.declared.Line.{Line}
 use Rattle.judge_scan.specs.Lines.{lineAt, noLine}
 use Rattle.judge.specs.declared.Verdict.{Verdict}
 use Rattle.judge.specs.declared.Verdict.the-variants.{Infeasible, Undecided, Refused}
-use Rattle.judge.specs.Admit.{admitOf}
+use Rattle.judge_admit.specs.Admit.{admitOf}
 use Rattle.judge.specs.After.{mapAfter, pinsAfter}
 
 -- the numbers of an answer

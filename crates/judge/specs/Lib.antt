@@ -1,5 +1,4 @@
 -- What the judge gives, and what it leaves in the lent lists.
-pub mod Admit
 pub mod After
 pub mod Judge
 pub mod Meaning

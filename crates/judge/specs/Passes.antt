@@ -1,22 +1,16 @@
--- For the passes alone: what they are given and what they work out for an accepted table.
+-- For the passes alone: what they work out for an accepted table.
 use mathlib.Core.Path.{_≡_}
 use mathlib.Core.Bool.{cond}
 use mathlib.Core.List.{List}
-use Prim.Native.Nat.{ℕ, _≤_}
+use Prim.Native.Nat.{ℕ}
 use lib.Dec.{eqb}
 use Rattle.table.specs.declared.Table.{Table}
-use Rattle.table.specs.Meaning.{modelOf, Accepted}
+use Rattle.table.specs.Meaning.{modelOf}
 use Rattle.judge_deepen.specs.Reached.{Reached}
 use Rattle.judge_scan.specs.declared.Line.{Line}
 use Rattle.judge_scan.specs.Lines.{lineAt}
 use Rattle.judge.specs.declared.Verdict.{Verdict}
 use Rattle.judge.specs.declared.Verdict.the-variants.{Infeasible, Undecided}
-
--- an accepted table with its frame h, in lists of a and b words that are long enough
-pub record Admitted (t : Table) (a b h : ℕ) : Type 0 where
-  pub accepted : Accepted t h
-  pub map-room : h ≤ a
-  pub pins-room : h ≤ b
 
 -- both lists, and the map's line
 pub record Lined (t : Table) (h : ℕ) (map pins map′ pins′ : List ℕ) (r : Line) : Type 0 where

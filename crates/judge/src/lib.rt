@@ -1,10 +1,9 @@
 // The judge of a table: whether some length of the frame has more work due than its slots supply.
 ghost use mathlib.Core.Path.{_≡_};
 ghost use lib.ListN.{length};
-ghost use Rattle.table.specs.Check.{numbers as checkNumbers, refused};
-ghost use Rattle.judge.specs.Admit.{longEnough, admitOf};
+ghost use Rattle.judge_admit.specs.Admit.{Admitted};
 ghost use Rattle.judge.specs.Judge.{Judged};
-ghost use Rattle.judge.specs.Passes.{Admitted, Lined, verdictOf};
+ghost use Rattle.judge.specs.Passes.{Lined, verdictOf};
 use basics::widths;
 use judge_scan::Line;
 use refusal::Refusal;
@@ -24,36 +23,6 @@ pub enum Verdict {
         frame: u32,
     },
     Refused(Refusal),
-}
-
-fn short() -> Checked
-    ensures { λ r. ⌜ checkNumbers r ≡ refused 8 0 ⌝ }
-{
-    table::refused(8, 0)
-}
-
-// The frame, or 8 where either list is shorter than it.
-fn long_enough(h: u32, map: usize, pins: usize) -> Checked
-    ensures { λ r. ⌜ checkNumbers r ≡ longEnough map pins (checkNumbers (Checked.Frame h)) ⌝ }
-{
-    if map < widths::size_of_word(h) {
-        return short();
-    }
-    if pins < widths::size_of_word(h) {
-        return short();
-    }
-    Checked::Frame(h)
-}
-
-// The frame, or the first refusal: the table's own, then 8. The lists are given by their lengths.
-pub fn admit(t: Table, map: usize, pins: usize) -> Checked
-    ensures { λ r. ⌜ checkNumbers r ≡ admitOf t map pins ⌝ }
-{
-    let c = table::check(t);
-    match c {
-        Checked::Refused(r) => Checked::Refused(r),
-        Checked::Frame(h) => long_enough(h, map, pins),
-    }
 }
 
 // Both lists at the table's depth, and the line of its map.
@@ -84,7 +53,7 @@ fn verdict_of(l: Line, frame: u32) -> Verdict
 pub fn judge(t: Table, map: &mut [Set], pins: &mut [Set]) -> Verdict
     ensures { λ r. ⌜ Judged t (now (map .entry)) (now (pins .entry)) (now (map .exit)) (now (pins .exit)) r ⌝ }
 {
-    let c = admit(t, map.len(), pins.len());
+    let c = judge_admit::admit(t, map.len(), pins.len());
     match c {
         Checked::Refused(r) => Verdict::Refused(r),
         Checked::Frame(h) => {

@@ -10,6 +10,7 @@ ghost use Rattle.judge_deepen.specs.Reached.{Reached};
 use basics::widths;
 use sets::Set;
 use table::Table;
+use table_row::Row;
 
 // The sets of the slots in which no more than m rows are available, and no row in the others.
 fn few_enough(map: &[Set], pins: &mut [Set], h: usize, m: u32)
@@ -33,7 +34,7 @@ pub fn deepen(t: Table, h: usize, map: &mut [Set], pins: &mut [Set]) -> bool
     let mut changed = false;
     let mut i: usize = 0;
     while i < n {
-        let row = t.rows[i];
+        let row: Row = t.rows[i];
         changed = judge_jobs::either(changed, judge_jobs::row_pass(map, pins, i, row, h));
         i += 1;
     }

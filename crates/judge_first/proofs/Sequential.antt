@@ -9,7 +9,7 @@ use Rattle.model.specs.Model.{Model, Map}
 use Rattle.model.specs.Pins.{size}
 use Rattle.sets.specs.Word.{words}
 use Rattle.sets.proofs.Words.{ones-word}
-use Rattle.table.specs.declared.Row.{Row}
+use Rattle.table_row.specs.declared.Row.{Row}
 use Rattle.table.specs.declared.Table.{Table}
 use Rattle.table.specs.Meaning.{modelOf}
 

@@ -7,14 +7,14 @@ ghost use lib.ListN.{length, getD};
 ghost use Rattle.basics.specs.Over.{Over};
 ghost use Rattle.model.specs.Depths.{available};
 ghost use Rattle.sets.specs.Word.{width, word, words, adding};
-ghost use Rattle.table.specs.Limits.{mostRows};
+ghost use Rattle.table_row.specs.Limits.{mostRows};
 ghost use Rattle.table.specs.Rows.{rowAt};
 ghost use Rattle.table.specs.Meaning.{modelOf, Accepted};
 ghost use Rattle.judge_first.specs.Columns.{inWindows};
 use basics::widths;
 use sets::Set;
 use table::Table;
-use table::limits::ROWS;
+use table_row::limits::ROWS;
 
 // The rows' periods and deadlines as two lists, so that no slot has to copy the table.
 fn columns(t: Table, n: usize, periods: &mut [u32; ROWS], deadlines: &mut [u32; ROWS])

@@ -12,7 +12,7 @@ use Rattle.model.proofs.Stop.{frame-room}
 use Rattle.sets.specs.Word.{member, put}
 use Rattle.sets.proofs.Words.{put-same}
 use Rattle.basics.proofs.Overs.{over-on, over-join}
-use Rattle.table.specs.declared.Row.{Row}
+use Rattle.table_row.specs.declared.Row.{Row}
 use Rattle.judge_jobs.specs.First.{inSlot, first}
 use Rattle.judge_jobs.specs.Passes.{jobMap, rowPin, rowMap, JobDone, RowDone}
 use Rattle.judge_jobs.proofs.Tally.{tally-ext, first-ext}

@@ -7,7 +7,7 @@ use lib.Dec.{leb, ltb}
 use lib.ListN.{getD}
 use Rattle.sets.specs.Word.{put}
 use Rattle.basics.specs.Over.{Over, Same}
-use Rattle.table.specs.declared.Row.{Row}
+use Rattle.table_row.specs.declared.Row.{Row}
 use Rattle.judge_jobs.specs.First.{inSlot, tally, first}
 
 -- the sets of a list, with row i in that of slot s if f says so and not in it otherwise

@@ -9,7 +9,7 @@ ghost use Rattle.judge_jobs.specs.First.{inSlot, tally, first};
 ghost use Rattle.judge_jobs.specs.Passes.{putting, Noticed, JobDone, RowDone};
 use basics::widths;
 use sets::Set;
-use table::Row;
+use table_row::Row;
 
 // How many of the len slots from `from` have row i.
 fn count(pins: &[Set], i: usize, from: usize, len: usize) -> usize

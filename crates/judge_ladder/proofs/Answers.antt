@@ -12,13 +12,13 @@ use Rattle.table.specs.Meaning.{modelOf}
 use Rattle.judge_deepen.specs.Reached.{Reached}
 use Rattle.judge_scan.specs.declared.Line.{Line}
 use Rattle.judge_scan.specs.Lines.{noLine}
-use Rattle.judge.specs.Admit.{admitOf}
+use Rattle.judge_admit.specs.Admit.{admitOf}
 use Rattle.judge.proofs.Answers.{refuses, map-kept, pins-kept, map-reached, pins-reached}
 use Rattle.judge_ladder.specs.declared.Square.{Square}
 use Rattle.judge_ladder.specs.Ladder.{noLines, ladderOf, Laddered}
-use Rattle.judge_ladder.specs.Core.{squareOf, Spelled, Climbed}
-use Rattle.judge_ladder.proofs.Squares.{lines-told}
-use Rattle.table.specs.Limits.{mostDepths}
+use Rattle.judge_climb.specs.Core.{squareOf, Spelled, Climbed}
+use Rattle.judge_climb.proofs.Squares.{lines-told}
+use Rattle.table_row.specs.Limits.{mostDepths}
 
 -- a square by its parts
 made : {s : Square} {r : Refusal} {l : List Line} → s .refusal ≡ r → s .lines ≡ l → s ≡ record { refusal = r; lines = l }

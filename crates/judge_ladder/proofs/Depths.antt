@@ -7,35 +7,31 @@ use Prim.Native.Nat.{ℕ, suc, _-_, _≤_}
 use native.Mathlib.Omega.{arith}
 use lib.Dec.{eqb}
 use lib.ListN.{length, getD}
-use borrow.Author.Tests.{le-leb}
 use Rattle.table.specs.declared.Table.{Table}
 use Rattle.table.specs.Check.{Numbers as CheckNumbers, checkRows, checkOf}
-use Rattle.basics.specs.Range.{inside}
+use Rattle.basics.proofs.Range.{inside-of}
 use Rattle.table.specs.Rows.{beside, tableBy}
 use Rattle.table.specs.Meaning.{modelOf}
 use Rattle.judge_scan.specs.Lines.{noLine, lineAt}
 use Rattle.judge.specs.declared.Verdict.{Verdict}
-use Rattle.judge.specs.Admit.{longEnough, admitOf}
-use Rattle.judge.specs.Passes.{Admitted}
+use Rattle.judge_admit.specs.Admit.{longEnough, admitOf}
+use Rattle.judge_admit.specs.Admit.{Admitted}
 use Rattle.judge.specs.After.{mapAfter, pinsAfter}
 use Rattle.judge.specs.Judge.{Numbers, given, numbers, judgeOf, Judged}
-use Rattle.judge.proofs.Admitted.{admit-outcome}
+use Rattle.judge_admit.proofs.Admitted.{admit-outcome}
 use Rattle.judge_ladder.specs.declared.Square.{Square}
 use Rattle.judge_ladder.specs.Ladder.{ladderOf, Laddered}
-use Rattle.judge_ladder.proofs.Squares.{lines-at}
-use Rattle.table.specs.Limits.{mostDepths}
+use Rattle.judge_climb.proofs.Squares.{lines-at}
+use Rattle.table_row.specs.Limits.{mostDepths}
 
 -- the same table at depth y
 abbrev pub atDepth : Table → ℕ → Table
 atDepth t y = tableBy (beside (t .processors) y) (t .count) (t .rows)
 
-inside-of : (x : ℕ) → 1 ≤ x → x ≤ mostDepths → inside 1 x mostDepths ≡ true
-inside-of x l g = rw (le-leb 1 x l, le-leb x mostDepths g)
-
 -- an accepted depth plays no part in the check
 check-depth : (t : Table) (y : ℕ) → 1 ≤ t .depth → t .depth ≤ mostDepths → 1 ≤ y → y ≤ mostDepths → checkOf (atDepth t y) ≡ checkOf t
 unfolding checkOf checkRows
-check-depth t y a b l g = rw (inside-of (t .depth) a b, inside-of y l g)
+check-depth t y a b l g = rw (inside-of 1 (t .depth) mostDepths a b, inside-of 1 y mostDepths l g)
 
 module _ (t : Table) (a b y : ℕ) (e : admitOf t a b .refusal .no ≡ 0) (l : 1 ≤ y) (g : y ≤ mostDepths) where
   fine : Admitted t a b (admitOf t a b .frame)

@@ -21,23 +21,24 @@ use Rattle.model.proofs.Least.{least-positive, least-exists}
 use Rattle.sets.specs.Word.{words}
 use Rattle.sets.proofs.Words.{member-word}
 use Rattle.table.specs.declared.Table.{Table}
-use Rattle.table.specs.Limits.{mostDepths}
+use Rattle.table_row.specs.Limits.{mostDepths}
 use Rattle.table.specs.Rows.{Alike}
 use Rattle.table.specs.Check.{Numbers as CheckNumbers}
 use Rattle.table.specs.Meaning.{modelOf, Accepted}
 use Rattle.table.proofs.Accepted.{sound-model}
 use Rattle.judge_scan.specs.declared.Line.{Line}
 use Rattle.judge_scan.specs.Lines.{noLine, lineAt}
-use Rattle.judge.specs.Admit.{admitOf}
+use Rattle.judge_admit.specs.Admit.{admitOf}
 use Rattle.judge.specs.After.{mapAfter, pinsAfter}
 use Rattle.judge.specs.Meaning.{mapAt, Fails, Shown, InWords}
-use Rattle.judge.proofs.Admitted.{admit-outcome}
+use Rattle.judge_admit.proofs.Admitted.{admit-outcome}
 use Rattle.judge.proofs.Lines.{line-t, line-some}
 use Rattle.judge.proofs.Kept.{after-refused, after-past}
 use Rattle.judge.proofs.Past.{line-alike, admit-alike, map-alike, pins-alike}
 use Rattle.judge_ladder.specs.declared.Square.{Square}
-use Rattle.judge_ladder.specs.Ladder.{noLines, depths, linesOf, ladderOf, Laddered}
-use Rattle.judge_ladder.proofs.Squares.{lines-at, lines-ext}
+use Rattle.judge_climb.specs.Lines.{depths, linesOf}
+use Rattle.judge_ladder.specs.Ladder.{noLines, ladderOf, Laddered}
+use Rattle.judge_climb.proofs.Squares.{lines-at, lines-ext}
 
 -- where the ladder is refused
 module _ (t : Table) (map pins map′ pins′ : List ℕ) (r : Square) (L : Laddered t map pins map′ pins′ r) where

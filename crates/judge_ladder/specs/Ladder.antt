@@ -1,26 +1,19 @@
 -- The ladder's answer, and its contract.
 use mathlib.Core.Path.{_≡_}
 use mathlib.Core.Bool.{cond}
-use mathlib.Core.List.{List, [], _∷_, map}
+use mathlib.Core.List.{List}
 use Prim.Native.Nat.{ℕ}
 use lib.Dec.{eqb}
 use lib.ListN.{length, replicate}
-use Rattle.model.specs.Model.{Model}
 use Rattle.table.specs.declared.Table.{Table}
-use Rattle.table.specs.Limits.{mostDepths}
+use Rattle.table_row.specs.Limits.{mostDepths}
 use Rattle.table.specs.Meaning.{modelOf}
 use Rattle.judge_scan.specs.declared.Line.{Line}
-use Rattle.judge_scan.specs.Lines.{noLine, lineAt}
-use Rattle.judge.specs.Admit.{admitOf}
+use Rattle.judge_scan.specs.Lines.{noLine}
+use Rattle.judge_admit.specs.Admit.{admitOf}
 use Rattle.judge.specs.After.{mapAfter, pinsAfter}
+use Rattle.judge_climb.specs.Lines.{linesOf}
 use Rattle.judge_ladder.specs.declared.Square.{Square}
-
--- "one line a depth from 1 to 8"
-abbrev pub depths : List ℕ
-depths = 1 ∷ 2 ∷ 3 ∷ 4 ∷ 5 ∷ 6 ∷ 7 ∷ 8 ∷ []
-
-unfoldable pub linesOf : Model → ℕ → List Line
-linesOf M h = map (λ y. lineAt M y h) depths
 
 -- a square of zeros
 abbrev pub noLines : List Line

@@ -1,3 +1,2 @@
 -- What the ladder gives, and what it leaves in the lent lists.
 pub mod Ladder
-pub mod Core

@@ -11,7 +11,7 @@ use Rattle.model.specs.Work.{workDue}
 use Rattle.basics.proofs.Sums.{sum-eq}
 use Rattle.basics.specs.Over.{Over}
 use Rattle.table.specs.declared.Table.{Table}
-use Rattle.table.specs.Limits.{mostProcessors, mostSlots}
+use Rattle.table_row.specs.Limits.{mostProcessors, mostSlots}
 use Rattle.table.specs.Meaning.{modelOf, Accepted}
 use Rattle.judge_first.proofs.Sequential.{sequential}
 use Rattle.judge_scan.specs.declared.Line.{Line}

@@ -9,7 +9,7 @@ use lib.ListN.{length, getD, set}
 use borrow.Author.Tests.{eq-eqb, ne-eqb}
 use Rattle.basics.proofs.Bools.{lt-or-ge}
 use Rattle.basics.proofs.Overs.{over-none, over-more, over-on}
-use Rattle.table.specs.declared.Row.{Row}
+use Rattle.table_row.specs.declared.Row.{Row}
 use Rattle.judge_scan.specs.Dues.{falling, Falls}
 
 -- two slots at the same place of a period are a period apart

@@ -12,9 +12,9 @@ use Rattle.basics.specs.Sum.{sum, bit}
 use Rattle.model.specs.Work.{workDue}
 use Rattle.basics.proofs.Sums.{sum-le, sum-same}
 use Rattle.basics.proofs.Overs.{over-none, over-on, over-then, over-ext}
-use Rattle.table.specs.declared.Row.{Row}
+use Rattle.table_row.specs.declared.Row.{Row}
 use Rattle.table.specs.declared.Table.{Table}
-use Rattle.table.specs.Limits.{mostSlots}
+use Rattle.table_row.specs.Limits.{mostSlots}
 use Rattle.table.specs.Rows.{rowAt}
 use Rattle.table.specs.Meaning.{modelOf, Accepted}
 use Rattle.table.proofs.Accepted.{sound-model}

@@ -8,7 +8,7 @@ use native.Mathlib.Numerals.{add-one}
 use native.Mathlib.Omega.{arith}
 use lib.ListN.{getD}
 use Rattle.basics.specs.Sum.{sum}
-use Rattle.table.specs.Limits.{mostProcessors}
+use Rattle.table_row.specs.Limits.{mostProcessors}
 use Rattle.judge_scan.specs.Lines.{noLine}
 use Rattle.judge_scan.specs.Totals.{total, Low, FailsAt, FailsNowhere}
 

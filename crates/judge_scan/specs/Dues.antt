@@ -5,9 +5,9 @@ use lib.Dec.{eqb}
 use lib.ListN.{getD}
 use Rattle.basics.specs.Sum.{sum, bit}
 use Rattle.basics.specs.Over.{Over}
-use Rattle.table.specs.declared.Row.{Row}
+use Rattle.table_row.specs.declared.Row.{Row}
 use Rattle.table.specs.declared.Table.{Table}
-use Rattle.table.specs.Limits.{mostRows, mostSlots}
+use Rattle.table_row.specs.Limits.{mostRows, mostSlots}
 use Rattle.table.specs.Rows.{rowAt}
 
 -- "its window is the D slots from there": of a row, what falls due in slot s

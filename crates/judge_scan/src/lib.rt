@@ -5,16 +5,16 @@ ghost use Prim.Native.Nat.{ℕ, _+_, _^_, _≤_, _<_, min};
 ghost use lib.Count.{ones};
 ghost use lib.ListN.{length, getD};
 ghost use Rattle.basics.specs.Over.{Over};
-ghost use Rattle.table.specs.Limits.{mostProcessors, mostSlots};
+ghost use Rattle.table_row.specs.Limits.{mostProcessors, mostSlots};
 ghost use Rattle.table.specs.Meaning.{Accepted};
 ghost use Rattle.judge_scan.specs.Dues.{falling, Falls, fallingIn, mostDue};
 ghost use Rattle.judge_scan.specs.Totals.{Low, FailsAt, FailsNowhere};
 ghost use Rattle.judge_scan.specs.Lines.{Scannable, Scanned};
 use basics::widths;
 use sets::Set;
-use table::Row;
 use table::Table;
-use table::limits::SLOTS;
+use table_row::Row;
+use table_row::limits::SLOTS;
 
 // A length, the work due in it and its supply; three zeros where no length fails.
 pub struct Line {

@@ -8,22 +8,23 @@ use native.Mathlib.Omega.{arith}
 use lib.Dec.{ltb}
 use borrow.Author.Tests.{ltb-true, ltb-false, eqb-false, not-true}
 use Rattle.model.specs.Model.{Model, Sound, Frame}
-use Rattle.table.specs.declared.Row.{Row}
+use Rattle.table_row.specs.declared.Row.{Row}
 use Rattle.table.specs.declared.Table.{Table}
 use Rattle.table.specs.declared.Checked.{Checked}
 use Rattle.table.specs.declared.Checked.the-variants.{Frame as Whole, Refused}
 use Rattle.basics.specs.Least.{least}
 use Rattle.table.specs.Frame.{frameOf, overAt}
 use Rattle.table.specs.Rows.{rowAt, besideOf}
-use Rattle.table.specs.Check.{Numbers, numbers, refused, rowRefusal, faulty, checkFrame, checkEach, checkRows, checkOf}
+use Rattle.table_row.specs.Row.{rowRefusal, faulty}
+use Rattle.table.specs.Check.{Numbers, numbers, refused, checkFrame, checkEach, checkRows, checkOf}
 use Rattle.refusal.specs.Refusal.{none}
 use Rattle.basics.specs.Range.{inside}
 use Rattle.table.specs.Meaning.{modelOf, Accepted}
 use Rattle.basics.proofs.Least.{least-below, least-here}
 use Rattle.table.proofs.Frame.{frame-pos, frame-dvd, frame-least}
-use Rattle.table.proofs.Ranges.{InOrder, rows-in-order}
+use Rattle.table_row.proofs.Ranges.{InOrder, rows-in-order}
 use Rattle.basics.proofs.Range.{inside-true}
-use Rattle.table.specs.Limits.{mostProcessors, mostDepths, mostRows, mostSlots}
+use Rattle.table_row.specs.Limits.{mostProcessors, mostDepths, mostRows, mostSlots}
 use Rattle.table.specs.declared.Beside.{Beside}
 use Rattle.refusal.specs.declared.Refusal.{Refusal}
 use Rattle.basics.proofs.Range.{inside-true}

@@ -4,7 +4,7 @@ use mathlib.Core.Logic.{_⊎_, inl, inr, ⊎-elim}
 use Prim.Native.Nat.{ℕ, _≤_}
 use native.Mathlib.Omega.{arith}
 use Rattle.refusal.specs.declared.Refusal.{Refusal}
-use Rattle.table.specs.declared.Row.{Row}
+use Rattle.table_row.specs.declared.Row.{Row}
 use Rattle.table.specs.declared.Table.{Table}
 use Rattle.table.specs.declared.Beside.{Beside}
 use Rattle.table.specs.declared.Checked.{Checked}
@@ -14,7 +14,7 @@ use Rattle.table.specs.Check.{Numbers, numbers, checkRows, checkOf}
 use Rattle.table.proofs.Accepted.{Rejected, rows-outcome}
 
 -- numbers with a frame, or with a refusal
-abbrev Given : Numbers → Type 0
+abbrev pub Given : Numbers → Type 0
 Given a = (1 ≤ a .frame) ⊎ Rejected a
 
 -- a frame and a refusal cannot both be the answer
@@ -22,7 +22,7 @@ clash : {a : Numbers} {h : ℕ} {r : Refusal} → Given a → numbers (Frame h) 
 clash g p q =
     ⊎-elim (λ l. omega (arith, ap (λ (n : Numbers). n .frame) q)) (λ l. omega (arith, l .number, ap (λ (n : Numbers). n .refusal .no) p)) g
 
-by-numbers : {a : Numbers} → Given a → (r s : Checked) → numbers r ≡ a → numbers s ≡ a → r ≡ s
+pub by-numbers : {a : Numbers} → Given a → (r s : Checked) → numbers r ≡ a → numbers s ≡ a → r ≡ s
 by-numbers g (Frame h) (Frame k) p q = ap (λ (n : Numbers). Frame (n .frame)) (p ∙ sym q)
 by-numbers g (Frame h) (Refused r) p q = absurd (clash g p q)
 by-numbers g (Refused r) (Frame h) p q = absurd (clash g q p)

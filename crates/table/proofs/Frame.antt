@@ -7,8 +7,8 @@ use native.Mathlib.Nat.{dvd-trans, one-dvd, le-of-dvd, eq-or-lt-of-le, le-of-suc
 use native.Mathlib.Numerals.{add-one}
 use native.Mathlib.Omega.{arith}
 use lib.Dec.{ltb}
-use Rattle.table.specs.Divisor.{multiple}
-use Rattle.table.proofs.Divisor.{multiple-dvd-left, multiple-dvd-right, multiple-least, multiple-pos}
+use Rattle.table_row.specs.Divisor.{multiple}
+use Rattle.table_row.proofs.Divisor.{multiple-dvd-left, multiple-dvd-right, multiple-least, multiple-pos}
 use Rattle.table.specs.Frame.{frameOf}
 
 module _ (T : ℕ → ℕ) where

@@ -1,8 +1,6 @@
 -- The theorems about tables.
-pub mod Divisor
 pub mod Frame
 pub mod Steps
-pub mod Ranges
 pub mod SoFar
 pub mod Accepted
 pub mod Past

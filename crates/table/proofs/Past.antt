@@ -6,17 +6,18 @@ use Prim.Native.Nat.{ℕ, zero, suc, _+_, _≤_, _<_}
 use native.Mathlib.Omega.{arith}
 use lib.Dec.{ltb}
 use borrow.Author.Tests.{ltb-true}
-use Rattle.table.specs.declared.Row.{Row}
+use Rattle.table_row.specs.declared.Row.{Row}
 use Rattle.table.specs.declared.Table.{Table}
 use Rattle.table.specs.declared.Beside.{Beside}
-use Rattle.table.specs.Limits.{mostSlots}
+use Rattle.table_row.specs.Limits.{mostSlots}
 use Rattle.table.specs.declared.Checked.the-variants.{Frame}
-use Rattle.table.specs.Divisor.{multiple}
+use Rattle.table_row.specs.Divisor.{multiple}
 use Rattle.basics.specs.Least.{least}
 use Rattle.basics.proofs.Least.{least-ext}
 use Rattle.table.specs.Frame.{frameOf, overAt}
 use Rattle.table.specs.Rows.{rowAt, besideOf, Alike}
-use Rattle.table.specs.Check.{Numbers, numbers, refused, rowRefusal, faulty, checkFrame, checkEach, checkRows, checkOf}
+use Rattle.table_row.specs.Row.{rowRefusal, faulty}
+use Rattle.table.specs.Check.{Numbers, numbers, refused, checkFrame, checkEach, checkRows, checkOf}
 use Rattle.table.specs.Seen.{ranges}
 
 frame-ext : (n : ℕ) {T U : ℕ → ℕ} → ((i : ℕ) → i < n → T i ≡ U i) → frameOf T n ≡ frameOf U n

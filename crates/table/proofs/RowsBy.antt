@@ -7,9 +7,10 @@ use native.Mathlib.Numerals.{add-one}
 use native.Mathlib.Omega.{arith}
 use lib.ListN.{length, set, replicate, take, length-append, length-replicate}
 use lib.Seq.{set-at, take-all, take-append-le}
-use Rattle.table.specs.declared.Row.{Row}
-use Rattle.table.specs.Rows.{noRow, rowsBy, roomBy}
-use Rattle.table.specs.Limits.{mostRows}
+use Rattle.table_row.specs.declared.Row.{Row}
+use Rattle.table_row.specs.Row.{noRow}
+use Rattle.table.specs.Rows.{rowsBy, roomBy}
+use Rattle.table_row.specs.Limits.{mostRows}
 
 module _ (f : ℕ → Row) where
   pub length-rows : (k : ℕ) → length (rowsBy f k) ≡ k

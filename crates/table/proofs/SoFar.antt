@@ -9,22 +9,24 @@ use lib.Dec.{leb, ltb, eqb}
 use borrow.Author.Count.{below-none, below-more}
 use borrow.Author.Tests.{lt-ltb, le-ltb, le-leb, lt-leb, eq-eqb, ne-eqb, eqb-true, eqb-false, not-true, not-false}
 use Rattle.basics.proofs.Bools.{lt-or-ge, test}
-use Rattle.table.specs.declared.Row.{Row}
+use Rattle.table_row.specs.declared.Row.{Row}
 use Rattle.table.specs.declared.Beside.{Beside}
 use Rattle.table.specs.declared.Seen.{Seen}
 use Rattle.table.specs.declared.Checked.the-variants.{Frame}
 use Rattle.basics.specs.Least.{least}
-use Rattle.table.specs.Divisor.{multiple}
+use Rattle.table_row.specs.Divisor.{multiple}
 use Rattle.table.specs.Frame.{frameOf}
-use Rattle.table.specs.Check.{Numbers, numbers, refused, rowRefusal, faulty, checkFrame, checkEach, checkRows}
+use Rattle.table_row.specs.Row.{rowRefusal, faulty}
+use Rattle.table.specs.Check.{Numbers, numbers, refused, checkFrame, checkEach, checkRows}
 use Rattle.basics.specs.Range.{inside}
+use Rattle.basics.proofs.Range.{inside-of, inside-not}
 use Rattle.table.specs.Seen.{noneSeen, oneMore, counted, faulted, taken, stepOf, seenEach, ranges, finishOf}
-use Rattle.table.proofs.Divisor.{multiple-pos}
+use Rattle.table_row.proofs.Divisor.{multiple-pos}
 use Rattle.table.proofs.Frame.{frame-zero, frame-suc}
 use Rattle.basics.proofs.Least.{least-found, least-none}
-use Rattle.table.proofs.Ranges.{in-order}
+use Rattle.table_row.proofs.Ranges.{in-order}
 use Rattle.table.proofs.Steps.{Small, frame-over, frame-whole, each-faulty, each-fine}
-use Rattle.table.specs.Limits.{mostRows, mostSlots}
+use Rattle.table_row.specs.Limits.{mostRows, mostSlots}
 
 -- the first i rows are in order
 abbrev Fine : (ℕ → Row) → ℕ → Type 0
@@ -65,11 +67,11 @@ module _ (s : Seen) (y : Row) where
 
   step-over : s .no ≡ 0 → faulty y ≡ false → mostSlots < s .frame → counted s ≡ stepOf s y
   unfolding stepOf
-  step-over p e h = rw (eq-eqb (s .no) 0 p, eq-eqb (rowRefusal y) 0 (not-faulty y e), le-leb 1 (s .frame) (omega arith), lt-leb (s .frame) mostSlots h)
+  step-over p e h = rw (eq-eqb (s .no) 0 p, eq-eqb (rowRefusal y) 0 (not-faulty y e), inside-not 1 (s .frame) mostSlots (λ l g. omega arith))
 
   step-taken : s .no ≡ 0 → faulty y ≡ false → 0 < s .frame → s .frame ≤ mostSlots → taken s y ≡ stepOf s y
   unfolding stepOf
-  step-taken p e h g = rw (eq-eqb (s .no) 0 p, eq-eqb (rowRefusal y) 0 (not-faulty y e), le-leb 1 (s .frame) h, le-leb (s .frame) mostSlots g)
+  step-taken p e h g = rw (eq-eqb (s .no) 0 p, eq-eqb (rowRefusal y) 0 (not-faulty y e), inside-of 1 (s .frame) mostSlots h g)
 
   -- whatever the tests say
   step-always : (stepOf s y .beside ≡ s .beside) × (stepOf s y .count ≡ oneMore (s .count))
@@ -152,6 +154,6 @@ module _ (row : ℕ → Row) where
   so-far-all a n s g =
       ap (λ (b : Beside). ranges b (s .count) (seenEach s)) (g .beside)
       ∙ ⊎-elim
-      (λ h. rw (g .many h, le-leb 1 n (omega arith), lt-leb n mostRows h))
+      (λ h. rw (g .many h, inside-not 1 n mostRows (λ l g. omega arith), inside-not 1 (mostRows + 1) mostRows (λ l g. omega arith)))
       (λ h. ap₂ (ranges a) (g .few h .0) (stage-all n s (g .few h .1)))
       (lt-or-ge mostRows n)

@@ -6,14 +6,15 @@ use native.Mathlib.Nat.{le-refl}
 use native.Mathlib.Omega.{arith}
 use lib.Dec.{leb, ltb, eqb}
 use borrow.Author.Tests.{lt-ltb, le-ltb}
-use Rattle.table.specs.declared.Row.{Row}
+use Rattle.table_row.specs.declared.Row.{Row}
 use Rattle.table.specs.declared.Beside.{Beside}
-use Rattle.table.specs.Limits.{mostProcessors, mostDepths, mostRows, mostSlots}
+use Rattle.table_row.specs.Limits.{mostProcessors, mostDepths, mostRows, mostSlots}
 use Rattle.table.specs.declared.Checked.{Checked}
 use Rattle.table.specs.declared.Checked.the-variants.{Frame, Refused}
 use Rattle.basics.specs.Least.{least}
 use Rattle.table.specs.Frame.{frameOf, overAt}
-use Rattle.table.specs.Check.{Numbers, numbers, refused, rowRefusal, faulty, checkFrame, checkEach, checkRows}
+use Rattle.table_row.specs.Row.{rowRefusal, faulty}
+use Rattle.table.specs.Check.{Numbers, numbers, refused, checkFrame, checkEach, checkRows}
 use Rattle.basics.specs.Range.{inside}
 use Rattle.table.specs.Seen.{ranges}
 use Rattle.basics.proofs.Least.{least-found, least-none}

@@ -2,7 +2,7 @@
 use mathlib.Core.Bool.{Bool, not, cond}
 use Prim.Native.Nat.{ℕ}
 use lib.Dec.{ltb, eqb}
-use Rattle.table.specs.declared.Row.{Row}
+use Rattle.table_row.specs.declared.Row.{Row}
 use Rattle.table.specs.declared.Table.{Table}
 use Rattle.table.specs.declared.Beside.{Beside}
 use Rattle.refusal.specs.declared.Refusal.{Refusal}
@@ -11,7 +11,8 @@ use Rattle.table.specs.declared.Checked.the-variants.{Frame, Refused}
 use Rattle.basics.specs.Least.{least}
 use Rattle.basics.specs.Range.{inside}
 use Rattle.refusal.specs.Refusal.{inRow, none}
-use Rattle.table.specs.Limits.{mostProcessors, mostDepths, mostRows, mostSlots}
+use Rattle.table_row.specs.Row.{rowRefusal, faulty}
+use Rattle.table_row.specs.Limits.{mostProcessors, mostDepths, mostRows, mostSlots}
 use Rattle.table.specs.Frame.{frameOf, overAt}
 use Rattle.table.specs.Rows.{rowAt, besideOf}
 
@@ -27,18 +28,6 @@ numbers (Refused r) = record { refusal = r; frame = 0 }
 
 abbrev pub refused : ℕ → ℕ → Numbers
 refused k row = numbers (Refused (inRow k row))
-
--- "T is 1 to 4,096, D is 1 to T, C is 1 to D": 4, 5 or 6 for T, D or C outside its range, 0 for a row that is in order
-unfoldable pub rowRefusal : Row → ℕ
-rowRefusal r =
-    cond (inside 1 (r .period) mostSlots)
-    (cond (inside 1 (r .deadline) (r .period))
-    (cond (inside 1 (r .execution) (r .deadline)) 0 6)
-    5)
-    4
-
-unfoldable pub faulty : Row → Bool
-faulty r = not (eqb (rowRefusal r) 0)
 
 -- 7: "the row is the first whose period takes the multiple of the rows so far over it"
 unfoldable pub checkFrame : ℕ → (ℕ → Row) → Numbers

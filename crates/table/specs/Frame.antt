@@ -1,8 +1,8 @@
 -- "The frame H is the least common multiple of the periods, at most 4,096."
 use Prim.Native.Nat.{ℕ, zero, suc}
 use lib.Dec.{ltb}
-use Rattle.table.specs.Limits.{mostSlots}
-use Rattle.table.specs.Divisor.{multiple}
+use Rattle.table_row.specs.Limits.{mostSlots}
+use Rattle.table_row.specs.Divisor.{multiple}
 use Rattle.basics.specs.Least.{least}
 
 -- the multiple of the first n periods

@@ -1,6 +1,4 @@
 -- What a table is, when it is accepted, and which model it makes.
-pub mod Limits
-pub mod Divisor
 pub mod Frame
 pub mod Rows
 pub mod Check

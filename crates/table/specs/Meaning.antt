@@ -3,7 +3,7 @@ use mathlib.Core.Path.{_≡_}
 use Prim.Native.Nat.{ℕ, _≤_, _<_}
 use Rattle.model.specs.Model.{Model}
 use Rattle.table.specs.declared.Table.{Table}
-use Rattle.table.specs.Limits.{mostProcessors, mostDepths, mostRows, mostSlots}
+use Rattle.table_row.specs.Limits.{mostProcessors, mostDepths, mostRows, mostSlots}
 use Rattle.table.specs.Frame.{frameOf}
 use Rattle.table.specs.Rows.{rowAt}
 

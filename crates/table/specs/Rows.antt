@@ -3,22 +3,11 @@ use mathlib.Core.Path.{_≡_}
 use Prim.Native.Nat.{ℕ, zero, suc, _-_, _<_}
 use mathlib.Core.List.{List, [], _∷_, _++_}
 use lib.ListN.{length, getD, replicate}
-use Rattle.table.specs.declared.Row.{Row}
+use Rattle.table_row.specs.declared.Row.{Row}
 use Rattle.table.specs.declared.Table.{Table}
 use Rattle.table.specs.declared.Beside.{Beside}
-use Rattle.table.specs.Limits.{mostRows}
-
--- a row from its fields, which stand as "(T, C, D)"
-abbrev pub rowBy : (ℕ → ℕ) → Row
-rowBy f = record { period = f 0; execution = f 1; deadline = f 2 }
-
--- the fields of a row in that order
-abbrev pub fieldsOf : Row → List ℕ
-fieldsOf r = r .period ∷ r .execution ∷ r .deadline ∷ []
-
--- a row of zeros, as it stands past the count
-abbrev pub noRow : Row
-noRow = rowBy (λ k. 0)
+use Rattle.table_row.specs.Row.{noRow}
+use Rattle.table_row.specs.Limits.{mostRows}
 
 -- "Rows are numbered from 0"
 abbrev pub rowAt : Table → ℕ → Row

@@ -2,13 +2,14 @@
 use mathlib.Core.Bool.{cond}
 use Prim.Native.Nat.{ℕ, _+_}
 use lib.Dec.{leb, ltb, eqb}
-use Rattle.table.specs.declared.Row.{Row}
+use Rattle.table_row.specs.declared.Row.{Row}
 use Rattle.table.specs.declared.Beside.{Beside}
 use Rattle.table.specs.declared.Seen.{Seen}
 use Rattle.table.specs.declared.Checked.the-variants.{Frame}
-use Rattle.table.specs.Limits.{mostProcessors, mostDepths, mostRows, mostSlots}
-use Rattle.table.specs.Divisor.{multiple}
-use Rattle.table.specs.Check.{Numbers, numbers, refused, rowRefusal}
+use Rattle.table_row.specs.Limits.{mostProcessors, mostDepths, mostRows, mostSlots}
+use Rattle.table_row.specs.Divisor.{multiple}
+use Rattle.table_row.specs.Row.{rowRefusal}
+use Rattle.table.specs.Check.{Numbers, numbers, refused}
 use Rattle.basics.specs.Range.{inside}
 
 abbrev pub noneSeen : Beside → Seen

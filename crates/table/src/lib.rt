@@ -1,27 +1,17 @@
 // A table of tasks and its check.
 ghost use mathlib.Core.Path.{_≡_};
-ghost use Rattle.table.specs.Rows.{noRow, noRows, besideOf, noTable};
-ghost use Rattle.table.specs.Check.{numbers, refused as refusedAs, checkOf, tableRefusal, rowRefusal};
+ghost use Rattle.table.specs.Rows.{noRows, besideOf, noTable};
+ghost use Rattle.table.specs.Check.{numbers, refused as refusedAs, checkOf, tableRefusal};
 ghost use Rattle.table.specs.Seen.{noneSeen, oneMore, stepOf, finishOf};
 use basics::ranges;
 use basics::widths;
 use refusal::Refusal;
-
-mod euclid;
-pub mod limits;
-
-use limits::DEPTHS;
-use limits::PROCESSORS;
-use limits::ROWS;
-use limits::SLOTS;
-
-// T, C and D of a task.
-#[repr(C)]
-pub struct Row {
-    pub period: u16,
-    pub execution: u16,
-    pub deadline: u16,
-}
+use table_row::Row;
+use table_row::euclid;
+use table_row::limits::DEPTHS;
+use table_row::limits::PROCESSORS;
+use table_row::limits::ROWS;
+use table_row::limits::SLOTS;
 
 // Processors m, depth x, and room for the rows, of which the first `count` matter.
 pub struct Table {
@@ -56,22 +46,11 @@ pub struct Seen {
     pub last: u8,
 }
 
-// A row of zeros.
-pub fn no_row() -> Row
-    ensures { λ r. ⌜ r ≡ noRow ⌝ }
-{
-    Row {
-        period: 0,
-        execution: 0,
-        deadline: 0,
-    }
-}
-
 // The room for rows, with zeros in it.
 pub fn no_rows() -> [Row; ROWS]
     ensures { λ r. ⌜ r ≡ noRows ⌝ }
 {
-    let row = no_row();
+    let row = table_row::no_row();
     [row; ROWS]
 }
 
@@ -93,24 +72,6 @@ pub fn refused(no: u8, row: u8) -> Checked
     ensures { λ r. ⌜ numbers r ≡ refusedAs no row ⌝ }
 {
     Checked::Refused(refusal::in_row(no, row))
-}
-
-// The refusal of a row by itself, or 0: T, then D, then C.
-fn row_refusal(r: Row) -> u8
-    ensures { λ n. ⌜ n ≡ rowRefusal r ⌝ }
-{
-    let period = widths::size_of_half(r.period);
-    if !ranges::within(1, period, SLOTS) {
-        return 4;
-    }
-    let deadline = widths::size_of_half(r.deadline);
-    if !ranges::within(1, deadline, period) {
-        return 5;
-    }
-    if !ranges::within(1, widths::size_of_half(r.execution), deadline) {
-        return 6;
-    }
-    0
 }
 
 // No row yet.
@@ -148,7 +109,7 @@ pub fn step(s: Seen, row: Row) -> Seen
     if s.no != 0 {
         return u;
     }
-    let no = row_refusal(row);
+    let no = table_row::row_refusal(row);
     if no != 0 {
         u.no = no;
         u.row = s.count;

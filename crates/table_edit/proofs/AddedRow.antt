@@ -10,23 +10,24 @@ use lib.Dec.{ltb}
 use lib.ListN.{length}
 use borrow.Author.Tests.{ltb-true, le-ltb}
 use Rattle.basics.proofs.Bools.{lt-or-ge, clash}
-use Rattle.table.specs.declared.Row.{Row}
+use Rattle.table_row.specs.declared.Row.{Row}
 use Rattle.table.specs.declared.Table.{Table}
-use Rattle.table.specs.Limits.{mostProcessors, mostDepths, mostRows, mostSlots}
+use Rattle.table_row.specs.Limits.{mostProcessors, mostDepths, mostRows, mostSlots}
 use Rattle.table.specs.declared.Checked.the-variants.{Frame}
 use Rattle.basics.specs.Least.{least}
 use Rattle.table.specs.Frame.{frameOf, overAt}
 use Rattle.table.specs.Rows.{rowAt, besideOf}
-use Rattle.table.specs.Check.{Numbers, numbers, refused, rowRefusal, faulty, checkFrame, checkEach, checkRows, checkOf}
+use Rattle.table_row.specs.Row.{rowRefusal, faulty}
+use Rattle.table.specs.Check.{Numbers, numbers, refused, checkFrame, checkEach, checkRows, checkOf}
 use Rattle.basics.proofs.Least.{least-here}
-use Rattle.table.proofs.Divisor.{multiple-pos, multiple-dvd-left}
+use Rattle.table_row.proofs.Divisor.{multiple-pos, multiple-dvd-left}
 use Rattle.table.proofs.Frame.{frame-pos, frame-suc}
-use Rattle.table.proofs.Ranges.{InOrder}
+use Rattle.table_row.proofs.Ranges.{InOrder}
 use Rattle.table.proofs.Accepted.{Fine, rows-outcome}
 use Rattle.table.proofs.Past.{check-rows-same}
 use Rattle.table.proofs.Steps.{rows-each}
 use Rattle.table_edit.specs.Edit.{added}
-use Rattle.table_edit.proofs.Steps.{inside-is}
+use Rattle.basics.proofs.Range.{inside-of}
 use Rattle.table_edit.proofs.Places.{add-before, count-added}
 
 -- a search that passes over the numbers below n ends at n
@@ -75,9 +76,9 @@ frame-grows T (suc n) pos i h =
 in-order-fine : (r : Row) → InOrder r → faulty r ≡ false
 unfolding faulty rowRefusal
 in-order-fine r o =
-    let period = inside-is 1 (r .period) mostSlots (o .period-low) (o .period-high) in
-    let deadline = inside-is 1 (r .deadline) (r .period) (omega (arith, o .execution-low, o .execution-high)) (o .deadline-high) in
-    let execution = inside-is 1 (r .execution) (r .deadline) (o .execution-low) (o .execution-high) in
+    let period = inside-of 1 (r .period) mostSlots (o .period-low) (o .period-high) in
+    let deadline = inside-of 1 (r .deadline) (r .period) (omega (arith, o .execution-low, o .execution-high)) (o .deadline-high) in
+    let execution = inside-of 1 (r .execution) (r .deadline) (o .execution-low) (o .execution-high) in
     rw (period, deadline, execution)
 
 module _ (t : Table) (row : Row) (full : length (t .rows) ≡ mostRows) (given : checkOf t .refusal .no ≡ 0) (room : t .count < mostRows) where
@@ -104,9 +105,9 @@ module _ (t : Table) (row : Row) (full : length (t .rows) ≡ mostRows) (given :
       let n : added t row .count ≡ suc (t .count) = count-added t full (omega arith) row ∙ add-one (t .count) in
       let f = own-rows in
       ap (λ (k : ℕ). checkEach k rows) (sym n)
-      ∙ rows-each (besideOf t) (added t row .count) rows (inside-is 1 _ mostProcessors (f .m-range .0) (f .m-range .1))
-      (inside-is 1 _ mostDepths (f .x-range .0) (f .x-range .1))
-      (rw n (inside-is 1 (suc (t .count)) mostRows (omega arith) room))
+      ∙ rows-each (besideOf t) (added t row .count) rows (inside-of 1 _ mostProcessors (f .m-range .0) (f .m-range .1))
+      (inside-of 1 _ mostDepths (f .x-range .0) (f .x-range .1))
+      (rw n (inside-of 1 (suc (t .count)) mostRows (omega arith) room))
 
   pub added-row : (checkOf (added t row) .refusal .no ≡ 0 → ⊥) → checkOf (added t row) .refusal .row ≡ t .count
   added-row f =

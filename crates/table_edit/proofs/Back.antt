@@ -5,11 +5,11 @@ use Prim.Native.Nat.{suc, _-_, _≤_, _<_}
 use native.Mathlib.Omega.{arith}
 use lib.ListN.{length, take, drop, replicate, drop-of-length-le}
 use lib.Seq.{take-append-seam, take-at}
-use Rattle.table.specs.declared.Row.{Row}
+use Rattle.table_row.specs.declared.Row.{Row}
 use Rattle.table.specs.declared.Table.{Table}
-use Rattle.table.specs.Limits.{mostRows}
+use Rattle.table_row.specs.Limits.{mostRows}
 use Rattle.refusal.specs.declared.Refusal.{Refusal}
-use Rattle.table.specs.Rows.{noRow}
+use Rattle.table_row.specs.Row.{noRow}
 use Rattle.table.specs.Check.{checkOf}
 use Rattle.refusal.specs.Refusal.{none}
 use Rattle.table.proofs.Accepted.{accepted}

@@ -1,7 +1,7 @@
 -- The contracts of add and remove determine the answer: two answers that meet one are equal.
 use mathlib.Core.Path.{_≡_, sym, _∙_}
 use Prim.Native.Nat.{ℕ}
-use Rattle.table.specs.declared.Row.{Row}
+use Rattle.table_row.specs.declared.Row.{Row}
 use Rattle.table.specs.declared.Table.{Table}
 use Rattle.table_edit.specs.declared.Edited.{Edited}
 use Rattle.table_edit.specs.Edit.{addOf, removeOf}

@@ -14,11 +14,12 @@ use Rattle.refusal.specs.declared.Refusal.{Refusal}
 use Rattle.refusal.specs.Refusal.{refuse, none}
 use Rattle.refusal.specs.Order.{first}
 use Rattle.refusal.proofs.Order.{first-next, first-here}
-use Rattle.table.specs.declared.Row.{Row}
+use Rattle.table_row.specs.declared.Row.{Row}
 use Rattle.table.specs.declared.Table.{Table}
 use Rattle.table.specs.declared.Beside.{Beside}
-use Rattle.table.specs.Limits.{mostRows}
-use Rattle.table.specs.Rows.{noRow, besideOf, tableOf, Alike}
+use Rattle.table_row.specs.Limits.{mostRows}
+use Rattle.table_row.specs.Row.{noRow}
+use Rattle.table.specs.Rows.{besideOf, tableOf, Alike}
 use Rattle.table.specs.Check.{Numbers, checkOf}
 use Rattle.table.proofs.Accepted.{accepted}
 use Rattle.table.proofs.Past.{past-the-count}

@@ -5,10 +5,11 @@ use Prim.Native.Nat.{ℕ, zero, suc, _+_, _-_, _≤_, _<_}
 use native.Mathlib.Omega.{arith}
 use lib.ListN.{length, getD, take, drop, replicate, List·getD-append}
 use lib.Seq.{getD-append-add, getD-take, getD-drop, getD-at, length-take-le}
-use Rattle.table.specs.declared.Row.{Row}
+use Rattle.table_row.specs.declared.Row.{Row}
 use Rattle.table.specs.declared.Table.{Table}
-use Rattle.table.specs.Limits.{mostRows}
-use Rattle.table.specs.Rows.{noRow, rowAt}
+use Rattle.table_row.specs.Limits.{mostRows}
+use Rattle.table_row.specs.Row.{noRow}
+use Rattle.table.specs.Rows.{rowAt}
 use Rattle.table_edit.specs.Edit.{rowsOf, withRows, added, removed}
 use Rattle.table_edit.proofs.Rows.{length-rows, length-added, length-removed}
 

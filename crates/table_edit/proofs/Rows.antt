@@ -7,10 +7,11 @@ use native.Mathlib.Numerals.{add-one}
 use native.Mathlib.Omega.{arith}
 use lib.ListN.{length, getD, set, take, drop, replicate, length-append, length-drop}
 use lib.Seq.{take-nil, paste, paste-suc, getD-drop, length-take-le, take-at, set-at, append-snoc, drop-drop, drop-append-add, take-take}
-use Rattle.table.specs.declared.Row.{Row}
+use Rattle.table_row.specs.declared.Row.{Row}
 use Rattle.table.specs.declared.Table.{Table}
-use Rattle.table.specs.Limits.{mostRows}
-use Rattle.table.specs.Rows.{noRow, besideOf, tableBy}
+use Rattle.table_row.specs.Limits.{mostRows}
+use Rattle.table_row.specs.Row.{noRow}
+use Rattle.table.specs.Rows.{besideOf, tableBy}
 use Rattle.table_edit.specs.Edit.{rowsOf, withRows, added, removed}
 
 -- a turn of the loop

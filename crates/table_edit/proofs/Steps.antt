@@ -5,16 +5,15 @@ use mathlib.Core.List.{[], _∷_, _++_}
 use Prim.Native.Nat.{ℕ, _+_, _≤_, _<_}
 use native.Mathlib.Omega.{arith}
 use lib.ListN.{length}
-use borrow.Author.Tests.{le-leb, lt-ltb, le-ltb, eq-eqb, ne-eqb}
-use Rattle.basics.proofs.Bools.{and-true}
-use Rattle.table.specs.declared.Row.{Row}
+use borrow.Author.Tests.{lt-ltb, le-ltb, eq-eqb, ne-eqb}
+use Rattle.table_row.specs.declared.Row.{Row}
 use Rattle.table.specs.declared.Table.{Table}
-use Rattle.table.specs.Limits.{mostProcessors, mostDepths, mostRows}
+use Rattle.table_row.specs.Limits.{mostProcessors, mostDepths, mostRows}
 use Rattle.refusal.specs.declared.Refusal.{Refusal}
 use Rattle.table.specs.Rows.{rowAt, besideOf}
 use Rattle.table.specs.Check.{Numbers, refused, checkOf}
 use Rattle.refusal.specs.Refusal.{refuse, none}
-use Rattle.basics.specs.Range.{inside}
+use Rattle.basics.proofs.Range.{inside-of, inside-not}
 use Rattle.table.proofs.Accepted.{accepted}
 use Rattle.table.proofs.Steps.{rows-count}
 use Rattle.refusal.specs.Order.{first}
@@ -30,9 +29,6 @@ keeps t r result f = rw (ne-eqb _ _ f)
 pub gives : (t : Table) (r : Refusal) (result : Table) → r .no ≡ 0 → record { refusal = r; table = result } ≡ edited t r result
 unfolding edited
 gives t r result e = rw (eq-eqb _ _ e)
-
-pub inside-is : (low x high : ℕ) → low ≤ x → x ≤ high → inside low x high ≡ true
-inside-is low x high h g = and-true (le-leb _ _ h) (le-leb _ _ g)
 
 -- the first refusal is the answer
 stops : (t result : Table) (p r s : Refusal) → r ≡ p → (r .no ≡ 0 → ⊥) → record { refusal = r; table = t } ≡ edited t (first p s) result
@@ -50,7 +46,7 @@ module _ (t : Table) (row : Row) where
       let a = accepted t e in
       let many : length (rowsOf t ++ row ∷ []) ≡ mostRows + 1 = omega (arith, length-added t l row (a .count-high), a .count-high) in
       sym (rows-count (besideOf t) (added t row .count) (rowAt (added t row))
-      (inside-is 1 _ mostProcessors (a .m-low) (a .m-high)) (inside-is 1 _ mostDepths (a .x-low) (a .x-high)) (rw many))
+      (inside-of 1 _ mostProcessors (a .m-low) (a .m-high)) (inside-of 1 _ mostDepths (a .x-low) (a .x-high)) (inside-not 1 (added t row .count) mostRows (λ p q. omega (arith, many))))
 
   pub add-full : length (t .rows) ≡ mostRows → checkOf t .refusal .no ≡ 0 → mostRows ≤ t .count → record { refusal = refuse 3; table = t } ≡ addOf t row
   unfolding addOf

@@ -3,15 +3,15 @@ ghost use mathlib.Core.Path.{_≡_};
 ghost use Prim.Native.Nat.{_+_, _≤_, _<_};
 ghost use lib.ListN.{drop};
 ghost use lib.Seq.{paste};
-ghost use Rattle.table.specs.Limits.{mostRows};
+ghost use Rattle.table_row.specs.Limits.{mostRows};
 ghost use Rattle.table.specs.Check.{checkOf};
 ghost use Rattle.refusal.specs.Refusal.{refuse};
 ghost use Rattle.table_edit.specs.Edit.{added, removed, edited, addOf, removeOf};
 use basics::widths;
 use refusal::Refusal;
-use table::Row;
 use table::Table;
-use table::limits::ROWS;
+use table_row::Row;
+use table_row::limits::ROWS;
 
 // The refusal, or number 0, and the table that comes back.
 pub struct Edited {

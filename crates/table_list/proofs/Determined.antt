@@ -2,10 +2,10 @@
 use mathlib.Core.Path.{_≡_}
 use mathlib.Core.List.{List}
 use lib.ListN.{length, getD}
-use Rattle.table.specs.declared.Row.{Row}
+use Rattle.table_row.specs.declared.Row.{Row}
 use Rattle.table.specs.declared.Beside.{Beside}
 use Rattle.table.specs.declared.Checked.{Checked}
-use Rattle.table.specs.Rows.{noRow}
+use Rattle.table_row.specs.Row.{noRow}
 use Rattle.table.specs.Check.{numbers}
 use Rattle.table.proofs.Determined.{rows-determined}
 use Rattle.table_list.specs.List.{checkList}

@@ -5,10 +5,11 @@ use mathlib.Core.List.{List}
 use Prim.Native.Nat.{_≤_}
 use lib.ListN.{length, getD, List·getD-append}
 use Rattle.basics.specs.Range.{inside}
-use Rattle.table.specs.declared.Row.{Row}
+use Rattle.table_row.specs.declared.Row.{Row}
 use Rattle.table.specs.declared.Beside.{Beside}
-use Rattle.table.specs.Limits.{mostProcessors, mostDepths, mostRows}
-use Rattle.table.specs.Rows.{noRow, rowAt, tableOf}
+use Rattle.table_row.specs.Limits.{mostProcessors, mostDepths, mostRows}
+use Rattle.table_row.specs.Row.{noRow}
+use Rattle.table.specs.Rows.{rowAt, tableOf}
 use Rattle.table.specs.Check.{refused, checkOf}
 use Rattle.table.proofs.Past.{check-rows-same}
 use Rattle.table.proofs.Steps.{rows-count}

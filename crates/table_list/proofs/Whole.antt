@@ -2,10 +2,10 @@
 use mathlib.Core.Path.{_≡_}
 use mathlib.Core.List.{List}
 use lib.ListN.{length, getD}
-use Rattle.table.specs.declared.Row.{Row}
+use Rattle.table_row.specs.declared.Row.{Row}
 use Rattle.table.specs.declared.Beside.{Beside}
 use Rattle.table.specs.declared.Seen.{Seen}
-use Rattle.table.specs.Rows.{noRow}
+use Rattle.table_row.specs.Row.{noRow}
 use Rattle.table.specs.Seen.{finishOf}
 use Rattle.table.proofs.SoFar.{SoFar, so-far-all}
 use Rattle.table_list.specs.List.{checkList}

@@ -1,9 +1,9 @@
 -- The check of a list of rows.
 use mathlib.Core.List.{List}
 use lib.ListN.{length, getD}
-use Rattle.table.specs.declared.Row.{Row}
+use Rattle.table_row.specs.declared.Row.{Row}
 use Rattle.table.specs.declared.Beside.{Beside}
-use Rattle.table.specs.Rows.{noRow}
+use Rattle.table_row.specs.Row.{noRow}
 use Rattle.table.specs.Check.{Numbers, checkRows}
 
 -- "A caller may also lend its rows as a list of records, which are checked as they stand, with m and x given beside them.";

@@ -9,10 +9,10 @@ use native.Mathlib.Omega.{arith}
 use lib.ListN.{length, length-append}
 use borrow.Author.Tests.{eq-eqb, ne-eqb}
 use Rattle.table.specs.declared.Table.{Table}
-use Rattle.table.specs.Limits.{mostSlots}
+use Rattle.table_row.specs.Limits.{mostSlots}
 use Rattle.refusal.specs.declared.Refusal.{Refusal}
 use Rattle.basics.specs.When.{when}
-use Rattle.file_entries.specs.Kinds.{kindOf, isTable}
+use Rattle.file_kinds.specs.Kinds.{kindOf, isTable}
 use Rattle.file_entries.specs.Entries.{countOf, kindAt, numberAt}
 use Rattle.file_bodies.specs.Body.{tableAt}
 use Rattle.file_check.specs.Check.{fileRefusal}
@@ -21,12 +21,14 @@ use Rattle.judge.specs.declared.Verdict.{Verdict}
 use Rattle.judge.specs.Judge.{judgeOf, Judged}
 use Rattle.file_bytes.proofs.Overs.{length-over}
 use Rattle.text_decimal.proofs.Puts.{written-none, written-then, put-place}
-use Rattle.text_shift.specs.Line.{longest, textRoom, tableLine, refusedLine}
+use Rattle.text_lines.specs.Line.{longest, tableLine, refusedLine}
+use Rattle.text_shift.specs.Shift.{textRoom}
 use Rattle.text_shift.specs.Text.{verdictAt, entryLine, linesTo, textOf}
 use Rattle.text_shift.specs.Lists.{entryLists, listsTo, listsAfter}
 use Rattle.text_shift.specs.Shift.{lists, Shifted}
-use Rattle.text_shift.specs.Steps.{verdictLine, Told, Entered, Through}
-use Rattle.text_shift.proofs.Lines.{verdict-line}
+use Rattle.text_lines.specs.Told.{verdictLine, Told}
+use Rattle.text_shift.specs.Steps.{Entered, Through}
+use Rattle.text_lines.proofs.Lines.{verdict-line}
 
 pub told-none : (most : ℕ) (o : List ℕ) (at : ℕ) → Told most o at [] o at
 told-none most o at = record { written = written-none o at; short = omega arith }

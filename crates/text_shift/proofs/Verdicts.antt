@@ -5,17 +5,17 @@ use mathlib.Core.List.{List}
 use Prim.Native.Nat.{ℕ, _<_}
 use borrow.Author.Tests.{eq-eqb, le-ltb}
 use Rattle.table.specs.declared.Table.{Table}
-use Rattle.table.specs.Limits.{mostSlots}
+use Rattle.table_row.specs.Limits.{mostSlots}
 use Rattle.table.specs.Check.{checkOf}
 use Rattle.table.specs.Meaning.{modelOf}
 use Rattle.table.proofs.Accepted.{accepted}
-use Rattle.file_entries.specs.Kinds.{kindOf, isTable}
+use Rattle.file_kinds.specs.Kinds.{kindOf, isTable}
 use Rattle.file_entries.specs.Entries.{countOf, kindAt}
 use Rattle.file_bodies.specs.Body.{tableAt}
 use Rattle.file_check.specs.Check.{fileRefusal}
 use Rattle.file_check.proofs.Fine.{file-is-fine}
 use Rattle.judge_scan.specs.Lines.{lineAt}
-use Rattle.judge.specs.Admit.{admitOf}
+use Rattle.judge_admit.specs.Admit.{admitOf}
 use Rattle.judge.specs.Judge.{given, judgeOf}
 use Rattle.text_shift.specs.Text.{verdictAt}
 

@@ -1,5 +1,4 @@
 -- The text that the shift check writes for a file, and what it leaves in the lent lists.
-pub mod Line
 pub mod Text
 pub mod Lists
 pub mod Shift

@@ -4,13 +4,13 @@ use mathlib.Core.List.{List, [], _++_}
 use Prim.Native.Nat.{ℕ, zero, suc}
 use lib.Dec.{eqb}
 use Rattle.basics.specs.When.{when}
-use Rattle.table.specs.Limits.{mostSlots}
-use Rattle.file_entries.specs.Kinds.{kindOf, isTable}
+use Rattle.table_row.specs.Limits.{mostSlots}
+use Rattle.file_kinds.specs.Kinds.{kindOf, isTable}
 use Rattle.file_entries.specs.Entries.{countOf, kindAt, numberAt}
 use Rattle.file_bodies.specs.Body.{tableAt}
 use Rattle.file_check.specs.Check.{fileRefusal}
 use Rattle.judge.specs.Judge.{Numbers, judgeOf}
-use Rattle.text_shift.specs.Line.{tableLine, refusedLine}
+use Rattle.text_lines.specs.Line.{tableLine, refusedLine}
 
 -- the verdict on the table of entry i: "It makes its two lists as 4,096 zero words each."
 unfoldable pub verdictAt : List ℕ → ℕ → Numbers

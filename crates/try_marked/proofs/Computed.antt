@@ -3,6 +3,7 @@ use mathlib.Core.Path.{_≡_, refl, sym, subst}
 use mathlib.Core.Bool.{true, false}
 use mathlib.Core.List.{List}
 use lib.ListN.{getD}
+use Rattle.basics.specs.Range.{inside}
 use Rattle.basics.specs.Sum.{sum, all}
 use Rattle.basics.specs.Least.{leastFrom, least}
 use Rattle.model.specs.Windows.{window}
@@ -16,16 +17,17 @@ use Rattle.model.specs.Tests.{sound, valid}
 use Rattle.model.proofs.Tests.{sound-ok, valid-ok}
 use Rattle.model.proofs.Examples.{turns}
 use Rattle.sets.specs.Word.{word}
-use Rattle.table.specs.Divisor.{divisorIn, divisor, multiple}
+use Rattle.table_row.specs.Divisor.{divisorIn, divisor, multiple}
 use Rattle.table.specs.Frame.{frameOf, overAt}
-use Rattle.table.specs.Check.{rowRefusal, faulty, checkFrame, checkEach, checkRows, checkOf}
+use Rattle.table_row.specs.Row.{rowRefusal, faulty}
+use Rattle.table.specs.Check.{checkFrame, checkEach, checkRows, checkOf}
 use Rattle.judge_scan.specs.Lines.{lineOf}
 use Rattle.try_marked.specs.declared.Case.{Case}
 use Rattle.try_marked.specs.Case.{noCase, modelIn, checks, answers, mapped, pinnedIn, right}
 use Rattle.try_marked.specs.Paper.{paper, Kept}
 
 pub rules : all 10 (λ i. right (getD paper i noCase)) ≡ true
-unfolding sum all window size pin pins pinned full next available pinnedAt usable supply jobsDue workDue fails leastFailing word divisorIn divisor multiple leastFrom least frameOf overAt rowRefusal faulty checkFrame checkEach checkRows checkOf lineOf checks answers mapped pinnedIn right paper
+unfolding sum all window size pin pins pinned full next available pinnedAt usable supply jobsDue workDue fails leastFailing word divisorIn divisor multiple leastFrom least frameOf overAt rowRefusal faulty checkFrame checkEach checkRows checkOf lineOf checks answers mapped pinnedIn right paper inside
 rules = refl
 
 -- case 7 is undecided, and it can be met: in each slot all rows run but one

@@ -19,9 +19,9 @@ use Rattle.sets.specs.Word.{words}
 use Rattle.judge_scan.specs.declared.Line.{Line}
 use Rattle.judge_scan.specs.Lines.{lineAt}
 use Rattle.judge.specs.declared.Verdict.{Verdict}
-use Rattle.judge.specs.Admit.{admitOf}
+use Rattle.judge_admit.specs.Admit.{admitOf}
 use Rattle.judge.specs.Judge.{given, numbers as verdictNumbers, judgeOf, Judged}
-use Rattle.judge.proofs.Admitted.{admit-frame}
+use Rattle.judge_admit.proofs.Admitted.{admit-frame}
 use Rattle.judge.proofs.Meaning.{map-left, pins-left}
 use Rattle.try_marked.specs.declared.Case.{Case}
 use Rattle.try_marked.specs.Case.{noCase, caseTable, modelIn, lineIn, checks, sameLine, answers, mapped, pinnedIn, right}

@@ -2,9 +2,10 @@
 use mathlib.Core.List.{List, [], _∷_}
 use Prim.Native.Nat.{ℕ, _+_}
 use lib.ListN.{getD}
-use Rattle.table.specs.declared.Row.{Row}
+use Rattle.table_row.specs.declared.Row.{Row}
 use Rattle.table.specs.declared.Table.{Table}
-use Rattle.table.specs.Rows.{rowBy, beside, inRoom, tableBy}
+use Rattle.table_row.specs.Row.{rowBy}
+use Rattle.table.specs.Rows.{beside, inRoom, tableBy}
 
 -- the row whose T, C and D stand from place k on
 abbrev pub rowFrom : List ℕ → ℕ → Row

@@ -5,8 +5,8 @@ ghost use Rattle.try_marked.specs.Rows.{rowFrom, tableFrom};
 ghost use Rattle.try_marked.specs.Case.{caseTable};
 ghost use Rattle.try_marked.specs.Paper.{Kept};
 use sets::Set;
-use table::Row;
 use table::Table;
+use table_row::Row;
 
 // A table of up to four rows (T, C and D of each in turn, then zeros); its frame, and its line (t, work and supply, or zeros);
 // and as many words of both lists as are told.
@@ -150,7 +150,7 @@ fn row_from(l: [u16; 12], k: usize) -> Row
     requires { ⌜ k ≤ 9 ⌝ }
     ensures { λ r. ⌜ r ≡ rowFrom l k ⌝ }
 {
-    let mut row = table::no_row();
+    let mut row = table_row::no_row();
     row.period = l[k];
     row.execution = l[k + 1];
     row.deadline = l[k + 2];

@@ -7,9 +7,9 @@ use judge_ladder::Square;
 use judge_scan::Line;
 use refusal::Refusal;
 use sets::Set;
-use table::Row;
 use table::Table;
-use table::limits::SLOTS;
+use table_row::Row;
+use table_row::limits::SLOTS;
 
 mod text;
 mod tries;

@@ -1,7 +1,7 @@
 // The tables that are tried by the judge or by the ladder.
 ghost use Prim.Native.Nat.{_<_};
 use table::Table;
-use table::limits::SLOTS;
+use table_row::limits::SLOTS;
 
 // Of the two lists, `map` and `pins` words are lent, where 1 stands for all; and `told` words of each are told.
 pub struct Try {

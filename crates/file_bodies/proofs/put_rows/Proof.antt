@@ -6,8 +6,8 @@ use native.Mathlib.Omega.{arith}
 use lib.ListN.{length, take, getD, length-map}
 use Rattle.file_bytes.specs.Over.{over}
 use Rattle.file_bytes.proofs.Overs.{over-none}
-use Rattle.table.specs.Limits.{mostRows}
-use Rattle.table.specs.Rows.{noRow}
+use Rattle.table_row.specs.Limits.{mostRows}
+use Rattle.table_row.specs.Row.{noRow}
 use Rattle.file_bodies.specs.Layout.{bodyHead, rowPlace}
 use Rattle.file_bodies.specs.Body.{rowBytes, rowsBytes}
 use Rattle.file_bodies.proofs.Writing.{row-next}

@@ -3,7 +3,7 @@ use mathlib.Core.Path.{_≡_, ap, _∙_}
 use Prim.Native.Nat.{_-_, _≤_}
 use native.Mathlib.Omega.{arith}
 use lib.ListN.{set, replicate}
-use Rattle.table.specs.Limits.{mostRows}
+use Rattle.table_row.specs.Limits.{mostRows}
 use Rattle.table.specs.Rows.{roomBy}
 use Rattle.file_bodies.specs.Body.{rowOf}
 use Rattle.table.proofs.RowsBy.{room-none, room-more}

@@ -1,7 +1,7 @@
 -- The bytes and rows at their places.
 use borrow.Author.Needs.{needs}
 use mathlib.Core.Path.{ap, _∙_}
-use Rattle.table.specs.Limits.{mostRows}
+use Rattle.table_row.specs.Limits.{mostRows}
 use Rattle.table.specs.Rows.{roomBy, beside, tableBy}
 use Rattle.file_bodies.specs.Body.{rowOf, bodyTable}
 use Prim.Native.Nat.{ℕ, min}

@@ -5,7 +5,7 @@ use Prim.Native.Nat.{ℕ}
 use native.Mathlib.Nat.{le-refl}
 use lib.ListN.{length, take, set, replicate, length-map}
 use Rattle.file_bytes.specs.Over.{over}
-use Rattle.table.specs.Limits.{mostRows}
+use Rattle.table_row.specs.Limits.{mostRows}
 use Rattle.file_bodies.specs.Layout.{bodyHead, mostBody}
 use Rattle.file_bodies.specs.Body.{rowsBytes}
 use Rattle.file_bodies.proofs.Writing.{table-written}

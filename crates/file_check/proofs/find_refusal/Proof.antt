@@ -2,7 +2,7 @@
 use borrow.Author.Needs.{needs}
 use mathlib.Core.Path.{_≡_, sym, ap, _∙_}
 use Rattle.refusal.specs.declared.Refusal.{Refusal}
-use Rattle.file_entries.specs.Kinds.{isTable}
+use Rattle.file_kinds.specs.Kinds.{isTable}
 use Rattle.file_check.specs.Check.{fileRefusal}
 use Rattle.file_check.specs.Find.{tableHas}
 use Rattle.file_check.proofs.Steps.{find-file, find-fine, find-none}

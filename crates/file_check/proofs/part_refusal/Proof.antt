@@ -2,7 +2,7 @@
 use borrow.Author.Needs.{needs}
 use mathlib.Core.Path.{_≡_, sym, ap, _∙_}
 use Rattle.file_bytes.specs.Sum.{sumOf}
-use Rattle.file_entries.specs.Kinds.{kindOf, isTable}
+use Rattle.file_kinds.specs.Kinds.{kindOf, isTable}
 use Rattle.file_entries.specs.Entries.{kindAt, sumAt, bodyAt}
 use Rattle.file_bodies.specs.Refusal.{bodyRefusal}
 use Rattle.file_check.proofs.Steps.{part-sum, part-table, part-note}

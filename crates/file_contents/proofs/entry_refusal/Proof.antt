@@ -5,7 +5,7 @@ use mathlib.Core.Bool.{false}
 use Prim.Native.Nat.{ℕ, _+_, _≤_}
 use native.Mathlib.Omega.{arith}
 use lib.ListN.{length}
-use Rattle.file_entries.specs.Kinds.{kindOf, isRefused}
+use Rattle.file_kinds.specs.Kinds.{kindOf, isRefused}
 use Rattle.file_entries.specs.Entries.{kindAt, numberAt, startAt, lengthAt, placeOf, seekIn}
 use Rattle.file_contents.proofs.Steps.{entry-kind, entry-start, entry-end, entry-used, entry-fine}
 use Rattle.file_contents.proofs.entry_refusal.Statement.{statement}

@@ -2,7 +2,7 @@
 use borrow.Author.Needs.{needs}
 use mathlib.Core.Path.{ap, _∙_}
 use native.Mathlib.Omega.{arith}
-use Rattle.file_entries.specs.Kinds.{kindOf}
+use Rattle.file_kinds.specs.Kinds.{kindOf}
 use Rattle.file_entries.specs.Entries.{kindAt}
 use Rattle.file_entries.proofs.Under.{under-none, under-entry}
 use Rattle.file_entries.proofs.kind_under.Statement.{statement}

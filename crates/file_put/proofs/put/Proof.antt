@@ -8,7 +8,7 @@ use lib.ListN.{length, take, replicate, length-map, length-take}
 use lib.Seq.{length-take-le}
 use Rattle.basics.specs.Over.{Holds}
 use Rattle.refusal.specs.declared.Refusal.{Refusal}
-use Rattle.table.specs.Limits.{mostRows}
+use Rattle.table_row.specs.Limits.{mostRows}
 use Rattle.table.proofs.Accepted.{accepted}
 use Rattle.file_bytes.proofs.Overs.{length-over}
 use Rattle.file_entries.specs.Limits.{mostEntries}
@@ -16,10 +16,10 @@ use Rattle.file_entries.specs.Entries.{countOf, seekOf}
 use Rattle.file_bodies.specs.Layout.{mostBody}
 use Rattle.file_bodies.specs.Body.{tableBytes}
 use Rattle.file_check.proofs.Fine.{FileFine, file-is-fine}
-use Rattle.file_put.specs.Put.{tableEntry, newEntries}
-use Rattle.file_put.specs.Writing.{sourceOf, newCount, earlyRefusal}
-use Rattle.file_put.proofs.Entered.{entered-count}
-use Rattle.file_put.proofs.Steps.{Early, early-is-fine}
+use Rattle.file_new.specs.New.{tableEntry, newEntries}
+use Rattle.file_new.specs.Steps.{sourceOf, newCount, earlyRefusal}
+use Rattle.file_new.proofs.Entered.{entered-count}
+use Rattle.file_new.proofs.Steps.{Early, early-is-fine}
 use Rattle.file_put.proofs.Outcomes.{file-is, buffer-is, puts-none, puts-file}
 use Rattle.file_put.proofs.put.Statement.{statement}
 use Rattle.file_put.proofs.put.Tie as tie

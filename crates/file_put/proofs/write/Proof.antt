@@ -7,12 +7,12 @@ use mathlib.Core.List.{List}
 use lib.ListN.{length}
 use Rattle.refusal.specs.declared.Refusal.{Refusal}
 use Rattle.file_entries.specs.Limits.{mostBytes}
-use Rattle.file_entries.specs.Kinds.{tableKind}
+use Rattle.file_kinds.specs.Kinds.{tableKind}
 use Rattle.file_contents.specs.File.{entryBy, encode}
 use Rattle.file_write.specs.Sources.{entriesBy}
 use Rattle.file_write.proofs.Sources.{length-by}
-use Rattle.file_put.specs.Writing.{lengthRefusal}
-use Rattle.file_put.proofs.Steps.{length-is-fine}
+use Rattle.file_new.specs.Steps.{lengthRefusal}
+use Rattle.file_new.proofs.Steps.{length-is-fine}
 use Rattle.file_put.proofs.Outcomes.{writes-none, writes-file}
 use Rattle.file_put.proofs.write.Statement.{statement}
 use Rattle.file_put.proofs.write.Tie as tie
@@ -29,11 +29,11 @@ length-is c =
 refusal-is : (c : tie.After-length-refusal) → c .length-refusal .result ≡ lengthRefusal (length (file (c .before .before .before .before .before .before))) (length (c .before .before .before .before .before .before .args .out .now))
 refusal-is c = c .length-refusal .ensures ∙ ap (λ (k : ℕ). lengthRefusal k (length (c .before .before .before .before .before .before .args .out .now))) (length-is c)
 
-fits : (c : tie.Else1) → (length (file (c .before .before .before .before .before .before .before .before)) ≤ mostBytes) × (length (file (c .before .before .before .before .before .before .before .before)) ≤ length (c .before .before .before .before .before .before .before .before .args .out .now))
-fits c = length-is-fine _ _ (sym (ap (λ (r : Refusal). r .no) (refusal-is (c .before .before))) ∙ c .if1 .left)
-
 returns : tie.Need-returns
 returns c = writes-none _ _ _ (refusal-is (c .before .before)) (c .if1 .taken)
+
+fits : (c : tie.Else1) → (length (file (c .before .before .before .before .before .before .before .before)) ≤ mostBytes) × (length (file (c .before .before .before .before .before .before .before .before)) ≤ length (c .before .before .before .before .before .before .before .before .args .out .now))
+fits c = length-is-fine _ _ (sym (ap (λ (r : Refusal). r .no) (refusal-is (c .before .before))) ∙ c .if1 .left)
 
 write-file-requires : tie.Need-write-file-requires
 write-file-requires c κs =

@@ -2,7 +2,7 @@
 use mathlib.Core.Path.{sym, ap, _∙_}
 use borrow.Author.Needs.{needs}
 use Rattle.table.specs.Check.{numbers}
-use Rattle.judge.proofs.Admitted.{admitted}
+use Rattle.judge_admit.proofs.Admitted.{admitted}
 use Rattle.judge.proofs.Answers.{judged-refused, judged-given}
 use Rattle.judge.proofs.judge.Statement.{statement}
 use Rattle.judge.proofs.judge.Tie as tie

@@ -4,7 +4,7 @@ use Prim.Native.Nat.{ℕ, _+_, _-_, _%_, _≤_}
 use native.Mathlib.Nat.{add-mod-right, zero-mod}
 use native.Mathlib.Omega.{arith}
 use Rattle.basics.proofs.Overs.{over-none}
-use Rattle.table.specs.declared.Row.{Row}
+use Rattle.table_row.specs.declared.Row.{Row}
 use Rattle.judge_jobs.specs.Passes.{RowDone}
 use Rattle.judge_jobs.proofs.Noticed.{noticed-none}
 use Rattle.judge_jobs.proofs.Row.{release-fits, row-step}

@@ -1,7 +1,7 @@
 -- Refused, or the square told line by line.
 use mathlib.Core.Path.{sym, ap, _∙_}
 use Rattle.table.specs.Check.{numbers}
-use Rattle.judge.proofs.Admitted.{admitted}
+use Rattle.judge_admit.proofs.Admitted.{admitted}
 use Rattle.judge_ladder.proofs.Answers.{laddered-refused, laddered-given}
 use borrow.Author.Needs.{needs}
 use Rattle.judge_ladder.proofs.ladder.Statement.{statement}

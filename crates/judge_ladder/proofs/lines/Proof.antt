@@ -3,11 +3,11 @@ use mathlib.Core.Path.{_≡_, ap}
 use native.Mathlib.Omega.{arith}
 use Prim.Native.Nat.{_-_, _≤_}
 use lib.ListN.{length}
-use Rattle.judge_ladder.specs.Core.{Spelled}
-use Rattle.judge_ladder.proofs.Squares.{told-more}
+use Rattle.judge_climb.specs.Core.{Spelled}
+use Rattle.judge_climb.proofs.Squares.{told-more}
 use Rattle.judge_ladder.proofs.lines.Statement.{statement}
 use Rattle.judge_ladder.proofs.lines.Tie as tie
-use Rattle.table.specs.Limits.{mostDepths}
+use Rattle.table_row.specs.Limits.{mostDepths}
 
 abbrev Inv-loop : tie.InvT-loop
 Inv-loop square all₀ k₀ all k = (k ≤ mostDepths) × Spelled k square all

@@ -3,7 +3,7 @@ use mathlib.Core.Path.{_≡_, refl, _∙_}
 use Prim.Native.Nat.{ℕ, _+_, _-_, _%_, _<_}
 use native.Mathlib.Nat.{add-mod-right}
 use native.Mathlib.Omega.{arith}
-use Rattle.table.specs.declared.Row.{Row}
+use Rattle.table_row.specs.declared.Row.{Row}
 use Rattle.judge_scan.specs.Dues.{falling, Falls}
 use Rattle.judge_scan.proofs.Falls.{ends-first, ends-none, ends-more, ends-all}
 use Rattle.judge_scan.proofs.row_dues.Statement.{statement}

@@ -1,31 +1,32 @@
 -- Each return is one answer of the definition, by the tests that led there.
 use mathlib.Core.Path.{_≡_, _∙_}
 use mathlib.Core.Bool.{true}
+use native.Mathlib.Omega.{arith}
 use borrow.Author.Needs.{needs}
 use borrow.Author.Tests.{eq-eqb, ne-eqb, le-leb, lt-leb}
 use Rattle.basics.proofs.Range.{range-failed, range-passed}
-use Rattle.table.specs.Limits.{mostProcessors, mostDepths, mostRows}
+use Rattle.table_row.specs.Limits.{mostProcessors, mostDepths, mostRows, mostSlots}
 use Rattle.basics.specs.Range.{inside}
 use Rattle.table.specs.Seen.{seenEach, finishOf}
 use Rattle.table.proofs.Steps.{range-m, range-x, range-count, ranges-fine}
 use Rattle.table.proofs.finish.Statement.{statement}
 use Rattle.table.proofs.finish.Tie as tie
 
+-- the tests of m, x and the count that passed
+m-fine : (c : tie.Else1) → inside 1 (c .before .before .before .args .s .beside .processors) mostProcessors ≡ true
+m-fine c = range-passed _ _ _ (c .before .within .ensures) (c .before .before .size-of-byte .ensures .same) (omega arith) (omega arith) (c .if1 .left)
+
+x-fine : (c : tie.Else2) → inside 1 (c .before .before .before .before .before .before .args .s .beside .depth) mostDepths ≡ true
+x-fine c = range-passed _ _ _ (c .before .within2 .ensures) (c .before .before .size-of-byte2 .ensures .same) (omega arith) (omega arith) (c .if2 .left)
+
+count-fine : (c : tie.Else3) → inside 1 (c .before .before .before .before .before .before .before .before .before .args .s .count) mostRows ≡ true
+count-fine c = range-passed _ _ _ (c .before .within3 .ensures) (c .before .before .size-of-byte3 .ensures .same) (omega arith) (omega arith) (c .if3 .left)
+
 returns : tie.Need-returns
 unfolding finishOf
 returns c =
     let st = c .before .before in
-    c .refused .ensures ∙ range-m _ _ _ (range-failed _ _ _ (st .within .ensures) (st .before .size-of-byte .ensures .same) (c .before .if1 .taken))
-
--- the tests of m, x and the count that passed
-m-fine : (c : tie.Else1) → inside 1 (c .before .before .before .args .s .beside .processors) mostProcessors ≡ true
-m-fine c = range-passed _ _ _ (c .before .within .ensures) (c .before .before .size-of-byte .ensures .same) (c .if1 .left)
-
-x-fine : (c : tie.Else2) → inside 1 (c .before .before .before .before .before .before .args .s .beside .depth) mostDepths ≡ true
-x-fine c = range-passed _ _ _ (c .before .within2 .ensures) (c .before .before .size-of-byte2 .ensures .same) (c .if2 .left)
-
-count-fine : (c : tie.Else3) → inside 1 (c .before .before .before .before .before .before .before .before .before .args .s .count) mostRows ≡ true
-count-fine c = range-passed _ _ _ (c .before .within3 .ensures) (c .before .before .size-of-byte3 .ensures .same) (c .if3 .left)
+    c .refused .ensures ∙ range-m _ _ _ (range-failed _ _ _ (st .within .ensures) (st .before .size-of-byte .ensures .same) (omega arith) (omega arith) (c .before .if1 .taken))
 
 returns-2 : tie.Need-returns-2
 unfolding finishOf
@@ -33,7 +34,7 @@ returns-2 c =
     let st = c .before .before in
     c .refused2 .ensures
     ∙ range-x _ _ _ (m-fine (st .before .before))
-    (range-failed _ _ _ (st .within2 .ensures) (st .before .size-of-byte2 .ensures .same) (c .before .if2 .taken))
+    (range-failed _ _ _ (st .within2 .ensures) (st .before .size-of-byte2 .ensures .same) (omega arith) (omega arith) (c .before .if2 .taken))
 
 returns-3 : tie.Need-returns-3
 unfolding finishOf
@@ -41,7 +42,7 @@ returns-3 c =
     let st = c .before .before in
     c .refused3 .ensures
     ∙ range-count _ _ _ (m-fine (st .before .before .before .before .before)) (x-fine (st .before .before))
-    (range-failed _ _ _ (st .within3 .ensures) (st .before .size-of-byte3 .ensures .same) (c .before .if3 .taken))
+    (range-failed _ _ _ (st .within3 .ensures) (st .before .size-of-byte3 .ensures .same) (omega arith) (omega arith) (c .before .if3 .taken))
 
 -- the three ranges are kept: what the rows come to is the answer
 each : (c : tie.Else3) → let s = c .before .before .before .before .before .before .before .before .before .args .s in seenEach s ≡ finishOf s
@@ -56,15 +57,15 @@ returns-5 : tie.Need-returns-5
 unfolding seenEach
 returns-5 c =
     let st = c .before .before .before in
-    let over = rw (c .before .before .size-of-word .ensures .same) at (c .before .if5 .taken) in
-    c .refused5 .ensures ∙ simp (eq-eqb _ _ (st .if4 .left), lt-leb _ _ over) at (each (st .before .before))
+    let over = lt-leb (st .before .before .before .before .before .before .before .before .before .before .before .args .s .frame) mostSlots (omega (arith, c .before .before .size-of-word .ensures .same, c .before .if5 .taken)) in
+    c .refused5 .ensures ∙ simp (eq-eqb _ _ (st .if4 .left), over) at (each (st .before .before))
 
 returns-6 : tie.Need-returns-6
 unfolding seenEach
 returns-6 c =
     let st = c .before .before in
-    let fits = rw (c .before .size-of-word .ensures .same) at (c .if5 .left) in
-    simp (eq-eqb _ _ (st .if4 .left), le-leb _ _ fits) at (each (st .before .before))
+    let fits = le-leb (st .before .before .before .before .before .before .before .before .before .before .before .args .s .frame) mostSlots (omega (arith, c .before .size-of-word .ensures .same, c .if5 .left)) in
+    simp (eq-eqb _ _ (st .if4 .left), fits) at (each (st .before .before))
 
 pub finish-spec : {M : Type 1} → statement M
 finish-spec =

@@ -2,8 +2,8 @@
 use mathlib.Core.Path.{ap}
 use lib.ListN.{replicate}
 use borrow.Author.Needs.{needs}
-use Rattle.table.specs.declared.Row.{Row}
-use Rattle.table.specs.Limits.{mostRows}
+use Rattle.table_row.specs.declared.Row.{Row}
+use Rattle.table_row.specs.Limits.{mostRows}
 use Rattle.table.proofs.no_rows.Statement.{statement}
 use Rattle.table.proofs.no_rows.Tie as tie
 

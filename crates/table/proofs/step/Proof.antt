@@ -1,11 +1,12 @@
 -- Each return computes the definition with the tests that led there.
 use mathlib.Core.Path.{_≡_, sym, _∙_}
 use mathlib.Core.Bool.{true, false}
+use native.Mathlib.Omega.{arith}
 use borrow.Author.Needs.{needs}
 use borrow.Author.Tests.{eq-eqb, ne-eqb}
 use Rattle.basics.specs.Range.{inside}
 use Rattle.basics.proofs.Range.{inside-true, range-failed, range-passed}
-use Rattle.table.specs.Limits.{mostSlots}
+use Rattle.table_row.specs.Limits.{mostSlots}
 use Rattle.table.specs.Seen.{stepOf}
 use Rattle.table.proofs.step.Statement.{statement}
 use Rattle.table.proofs.step.Tie as tie
@@ -31,7 +32,7 @@ unfolding stepOf
 returns-3 c =
     let st = c .before .before .before in
     let over : inside 1 (st .before .before .before .before .before .args .s .frame) mostSlots ≡ false =
-    range-failed _ _ _ (c .before .within .ensures) (c .before .before .size-of-word .ensures .same) (c .if3 .taken) in
+    range-failed _ _ _ (c .before .within .ensures) (c .before .before .size-of-word .ensures .same) (omega arith) (omega arith) (c .if3 .taken) in
     simp (
       st .before .before .before .before .one-more .ensures,
       eq-eqb _ _ (st .before .before .if1 .left),
@@ -40,7 +41,7 @@ returns-3 c =
     )
 
 frame-fine : (c : tie.Else3) → inside 1 (c .before .before .before .before .before .before .before .before .args .s .frame) mostSlots ≡ true
-frame-fine c = range-passed _ _ _ (c .before .within .ensures) (c .before .before .size-of-word .ensures .same) (c .if3 .left)
+frame-fine c = range-passed _ _ _ (c .before .within .ensures) (c .before .before .size-of-word .ensures .same) (omega arith) (omega arith) (c .if3 .left)
 
 multiple-requires : tie.Need-multiple-requires
 multiple-requires c κs = inside-true _ _ _ (frame-fine c)

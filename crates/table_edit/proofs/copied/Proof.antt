@@ -5,8 +5,8 @@ use native.Mathlib.Omega.{arith}
 use mathlib.Core.List.{List}
 use lib.ListN.{getD, set, drop}
 use lib.Seq.{paste, paste-zero}
-use Rattle.table.specs.declared.Row.{Row}
-use Rattle.table.specs.Rows.{noRow}
+use Rattle.table_row.specs.declared.Row.{Row}
+use Rattle.table_row.specs.Row.{noRow}
 use Rattle.table_edit.proofs.Rows.{copy-more}
 use borrow.Author.Needs.{needs}
 use Rattle.table_edit.proofs.copied.Statement.{statement}

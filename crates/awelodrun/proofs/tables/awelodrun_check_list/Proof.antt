@@ -45,18 +45,18 @@ use denote.Triple.Table.{entered, cited}
 use denote.Triple.Walked.{says, Stays, stay-dropped, walkOf, goes-dropped, Walks, ends-at, walked, walk-meets}
 use denote.Triple.Clauses.{ensured, lasts}
 use denote.Exit.{yes}
-use Rattle.table.specs.declared.Row.{Row}
+use Rattle.table_row.specs.declared.Row.{Row}
 use Rattle.table.specs.declared.Beside.{Beside}
 use Rattle.table.specs.declared.Seen.{Seen}
-use Rattle.table.specs.Rows.{noRow}
+use Rattle.table_row.specs.Row.{noRow}
 use Rattle.table.specs.Seen.{noneSeen, stepOf, finishOf}
 use Rattle.table.proofs.SoFar.{SoFar, so-far-none, so-far-step}
 use Rattle.table_list.specs.List.{checkList}
 use Rattle.table_list.proofs.Whole.{seen-all}
 use Rattle.c_numbers.specs.declared.answers.Answer.{Answer}
 use Rattle.c_numbers.specs.Answers.{answerOf}
-use Rattle.table.proofs.Row as R
-use Rattle.table.proofs.Row.Laws as R′
+use Rattle.table_row.proofs.Row as R
+use Rattle.table_row.proofs.Row.Laws as R′
 use Rattle.table.proofs.Seen as B
 use Rattle.table.proofs.Seen.Laws as B′
 use Rattle.table.proofs.Beside as G

@@ -9,7 +9,7 @@ use Rattle.c_numbers.proofs.Upto.{Upto}
 use Rattle.c_numbers.proofs.Table.{head-written, row-written, table-written}
 use Rattle.c_numbers.proofs.lent.numbers.Statement.{statement}
 use Rattle.c_numbers.proofs.lent.numbers.Tie as tie
-use Rattle.table.specs.Limits.{mostRows}
+use Rattle.table_row.specs.Limits.{mostRows}
 
 abbrev Inv-loop : tie.InvT-loop
 Inv-loop t all₀ i₀ all i = (i ≤ mostRows) × Upto (numbersOf t) (3 + 3 * i) all

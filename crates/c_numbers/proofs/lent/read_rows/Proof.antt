@@ -4,13 +4,13 @@ use mathlib.Core.List.{List}
 use Prim.Native.Nat.{_-_, _≤_}
 use native.Mathlib.Omega.{arith}
 use lib.ListN.{set}
-use Rattle.table.specs.declared.Row.{Row}
+use Rattle.table_row.specs.declared.Row.{Row}
 use Rattle.table.specs.Rows.{roomBy}
 use Rattle.table.proofs.RowsBy.{room-none, room-more, room-all}
 use Rattle.c_numbers.specs.Lent.{lentRow}
 use Rattle.c_numbers.proofs.lent.read_rows.Statement.{statement}
 use Rattle.c_numbers.proofs.lent.read_rows.Tie as tie
-use Rattle.table.specs.Limits.{mostRows}
+use Rattle.table_row.specs.Limits.{mostRows}
 
 abbrev Inv-loop : tie.InvT-loop
 Inv-loop l rows₀ i₀ rows i = (i ≤ mostRows) × (rows ≡ roomBy (lentRow l) i)

@@ -1,0 +1,2 @@
+-- The kinds of entries.
+pub mod Kinds

@@ -1,0 +1,3 @@
+-- The file that put makes.
+pub mod New
+pub mod Steps

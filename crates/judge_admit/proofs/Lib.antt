@@ -1,0 +1,2 @@
+-- What it means to be admitted.
+pub mod Admitted

@@ -1,0 +1,2 @@
+-- When a table and two lent lists are refused.
+pub mod Admit

@@ -1,0 +1,4 @@
+-- The theorems about the square.
+pub mod Squares
+pub mod Same
+pub mod Climbing

@@ -1,0 +1,3 @@
+-- The theorems about rows and multiples.
+pub mod Divisor
+pub mod Ranges

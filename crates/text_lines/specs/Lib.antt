@@ -1,0 +1,3 @@
+-- The lines of the shift check.
+pub mod Line
+pub mod Told
