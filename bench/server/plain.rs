@@ -14,7 +14,7 @@ use std::io;
 
 pub fn run() -> io::Result<()> {
     let binding = serve::Binding {
-        ready: |m, x, rows| Given::from_table(&Table::of(m, x, rows)),
+        ready: |m, x, rows| Given::from_table(&Table::of(m.into(), x.into(), rows)),
         judge: |table, map, pins| fast::judge::<false>(table, map, pins).numbers(),
         ladder: |table, map, pins| fast::ladder::<false>(table, map, pins).numbers(),
     };

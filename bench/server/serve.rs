@@ -79,7 +79,7 @@ mod tests {
     /// What a server of plain Rust says.
     fn said(requests: &str) -> Vec<Answer> {
         let binding = Binding {
-            ready: |m, x, rows| Given::from_table(&Table::of(m, x, rows)),
+            ready: |m, x, rows| Given::from_table(&Table::of(m.into(), x.into(), rows)),
             judge: |table, map, pins| fast::judge::<false>(table, map, pins).numbers(),
             ladder: |table, map, pins| fast::ladder::<false>(table, map, pins).numbers(),
         };

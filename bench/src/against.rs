@@ -117,8 +117,10 @@ fn medians(
 ) -> Result<[f64; 4], String> {
     let start = |(side, name): (&Programs, &'static str)| Server::start(name, &side.at(PLACES[place]));
     let mut servers = sides.iter().zip(NAMES).map(start).collect::<Result<Vec<Server>, String>>()?;
-    let rows = table.table().counted().iter().map(|row| (row.period, row.execution, row.deadline)).collect();
-    let request = Request::Table { frame, m: table.m, x: table.x, rows };
+    let lent = table.table();
+    let rows = lent.counted().iter().map(|row| (row.period, row.execution, row.deadline)).collect();
+    let byte = |number: u16| u8::try_from(number).map_err(|_| format!("{number} fits no byte: {lent:?}"));
+    let request = Request::Table { frame, m: byte(lent.m)?, x: byte(lent.x)?, rows };
     for server in &mut servers {
         server.ask(&request)?;
     }
@@ -189,9 +191,9 @@ fn sides(root: &Path, commit: &str) -> Result<([Programs; 4], String), Failure> 
     let mut new_title = title(root, "HEAD") + changed;
     eprintln!("building {new_title}");
     let tree = Tree::new(root)?;
-    let new_archive = match std::env::var_os("AWELODRUN_LIB").filter(|path| !path.is_empty()) {
-        Some(path) => {
-            let archive = PathBuf::from(path);
+    let new_archive = match std::env::var_os("AWELODRUN_LIB_DIR").filter(|folder| !folder.is_empty()) {
+        Some(folder) => {
+            let archive = PathBuf::from(folder).join("libawelodrun.a");
             new_title = format!("{}, with the binding of {new_title}", archive.display());
             archive
         }

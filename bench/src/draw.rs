@@ -24,7 +24,7 @@ fn draw(random: &mut Random, shape: Shape) -> Table {
     let longest = random.below(shape.rows);
     let windows = random.from_to(50, 800) * shape.m / shape.rows;
     let load = random.from_to(10, 100);
-    let mut table = Table { m: shape.m as u8, x: shape.x as u8, count: shape.rows as u8, ..Table::default() };
+    let mut table = Table { m: shape.m as u16, x: shape.x as u16, count: shape.rows as u16, ..Table::default() };
     for (i, row) in table.rows[..shape.rows].iter_mut().enumerate() {
         let period = if i == longest { shape.frame } else { least << random.from_to(0, steps) };
         let deadline = (period * windows * random.from_to(30, 170) / 10_000).clamp(1, period);

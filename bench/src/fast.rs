@@ -6,11 +6,12 @@
 
 use outside::answers::{Given, Judged, Ladder, Refusal, Row};
 
-/// The rows of a table that was checked, beside m and the frame.
+/// The rows of a table that was checked, beside m, x and the frame.
 struct Checked {
     rows: [Row; 32],
     count: usize,
     m: u32,
+    x: u16,
     frame: usize,
 }
 
@@ -26,17 +27,17 @@ fn refuse(no: u32, row: usize) -> Refusal {
 }
 
 fn check(given: &Given, map: &[u32], pins: &[u32]) -> Result<Checked, Refusal> {
-    if given.m.wrapping_sub(1) >= 16 {
+    let table = given.table();
+    if table.m.wrapping_sub(1) >= 16 {
         return Err(refuse(1, 0));
     }
-    if given.x.wrapping_sub(1) >= 8 {
+    if table.x.wrapping_sub(1) >= 8 {
         return Err(refuse(2, 0));
     }
-    if given.count.wrapping_sub(1) >= 32 {
+    if table.count.wrapping_sub(1) >= 32 {
         return Err(refuse(3, 0));
     }
-    let table = given.table();
-    let count = given.count as usize;
+    let count = table.count as usize;
     for (i, row) in table.rows[..count].iter().enumerate() {
         if row.period.wrapping_sub(1) >= 4096 {
             return Err(refuse(4, i));
@@ -60,7 +61,7 @@ fn check(given: &Given, map: &[u32], pins: &[u32]) -> Result<Checked, Refusal> {
     if map.len() < frame || pins.len() < frame {
         return Err(refuse(8, 0));
     }
-    Ok(Checked { rows: table.rows, count, m: given.m as u32, frame })
+    Ok(Checked { rows: table.rows, count, m: table.m as u32, x: table.x, frame })
 }
 
 impl Checked {
@@ -176,10 +177,10 @@ pub fn judge<const WINDOWS: bool>(given: &Given, map: &mut [u32], pins: &mut [u3
         Err(refusal) => return Judged { refusal, ..Judged::default() },
     };
     table.first_map::<WINDOWS>(map);
-    if given.x == 1 {
+    if table.x == 1 {
         pins[..table.frame].fill(0);
     }
-    for _ in 1..given.x {
+    for _ in 1..table.x {
         if !table.deepen(map, pins) {
             break;
         }

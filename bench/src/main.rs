@@ -45,9 +45,9 @@ fn contenders() -> Vec<Contender> {
     let literal = Contender { name: "literal", judge: literal::judge, ladder: literal::ladder, sample: 0.0 };
     #[cfg(feature = "library")]
     {
-        use outside::{ffi::Library, subject::Subject};
-        let judge = |table: &Given, map: &mut [u32], pins: &mut [u32]| Library.judge(table, map, pins);
-        let ladder = |table: &Given, map: &mut [u32], pins: &mut [u32]| Library.ladder(table, map, pins);
+        use outside::{library::Library, subject::Subject};
+        let judge = |table: &Given, map: &mut [u32], pins: &mut [u32]| Library::default().judge(table, map, pins);
+        let ladder = |table: &Given, map: &mut [u32], pins: &mut [u32]| Library::default().ladder(table, map, pins);
         let library = Contender { name: "library", judge, ladder, sample: 0.002 };
         return vec![library, fast, windows, literal];
     }

@@ -119,6 +119,13 @@ fn manifest(source: &Path, outside: &Path, features: &str) -> String {
     )
 }
 
+/// How a tree's binding is told of the archive: by its folder where the tree has the crate rust/awelodrun, and by its path
+/// where it is an earlier one. Both are set, so that nothing of this process's environment is taken instead.
+fn told(archive: Option<&Path>) -> [(&'static str, &Path); 2] {
+    let archive = archive.unwrap_or(Path::new(""));
+    [("AWELODRUN_LIB", archive), ("AWELODRUN_LIB_DIR", archive.parent().unwrap_or(archive))]
+}
+
 /// The programs of a server, one for each place.
 #[derive(Clone)]
 pub struct Programs(PathBuf);
@@ -139,7 +146,7 @@ impl Programs {
         let target = folder.join("target");
         let mut cargo = Command::new("cargo");
         cargo.args(["build", "--quiet", "--release", "--offline", "-j", "1", "--manifest-path"]).arg(&path);
-        cargo.arg("--target-dir").arg(&target).env("AWELODRUN_LIB", archive.unwrap_or(Path::new("")));
+        cargo.arg("--target-dir").arg(&target).envs(told(archive));
         output(&mut cargo)?;
         Ok(Programs(target.join("release")))
     }
@@ -258,6 +265,14 @@ mod tests {
         assert!(text.contains("name = \"at-0\"\npath = \"/new/main.rs\"\n"));
         assert!(text.contains("name = \"at-60\"\npath = \"/new/main.rs\"\n"));
         assert!(text.contains("outside = { path = \"/old/a \\\"tree\\\"\", features = [\"library\"] }\n"));
+    }
+
+    #[test]
+    fn a_binding_is_told_of_the_archive_in_both_ways() {
+        let [early, now] = told(Some(Path::new("/old/target/native/libcapi.a")));
+        assert_eq!(early, ("AWELODRUN_LIB", Path::new("/old/target/native/libcapi.a")));
+        assert_eq!(now, ("AWELODRUN_LIB_DIR", Path::new("/old/target/native")));
+        assert_eq!(told(None).map(|(_, path)| path), [Path::new(""); 2]);
     }
 
     #[test]

@@ -11,7 +11,7 @@ use c_numbers::lent::NUMBERS;
 
 // The check of a file: no, entry, row, entries.
 #[no_mangle]
-pub extern "C" fn awelodrun_file_check(file: &[u8], answer: &mut [u32; 4])
+pub extern "C" fn awelodrun_raw_file_check(file: &[u8], answer: &mut [u32; 4])
     ensures { λ _. ⌜ now (answer .exit) ≡ fileAnswer (checkFile (now (file .entry))) ⌝ }
 {
     *answer = answers::of_file_check(file_check::check_file(file));
@@ -19,33 +19,30 @@ pub extern "C" fn awelodrun_file_check(file: &[u8], answer: &mut [u32; 4])
 
 // The table that has a number: the table, and no, entry, row.
 #[no_mangle]
-pub extern "C" fn awelodrun_find(
+pub extern "C" fn awelodrun_raw_find(
     file: &[u8],
     number: u16,
-    table: &mut [u16; NUMBERS],
+    result: &mut [u16; NUMBERS],
     answer: &mut [u32; 3],
 )
-    ensures { λ _. ⌜ Finds (findOf (now (file .entry)) number) (now (table .exit)) (now (answer .exit)) ⌝ }
+    ensures { λ _. ⌜ Finds (findOf (now (file .entry)) number) (now (result .exit)) (now (answer .exit)) ⌝ }
 {
     let found = file_check::find(file, number);
-    *table = lent::numbers(found.table);
+    *result = lent::numbers(found.table);
     *answer = answers::of_refusal(found.refusal);
 }
 
 // Writes the file with the table of a number put into it: no, entry, row, length.
 #[no_mangle]
-pub extern "C" fn awelodrun_put(
+pub extern "C" fn awelodrun_raw_put(
     file: &[u8],
     number: u16,
-    m: u8,
-    x: u8,
-    count: u8,
-    rows: &[u16],
+    table: &[u16; NUMBERS],
     out: &mut [u8],
     answer: &mut [u32; 4],
 )
-    ensures { λ _. ⌜ Writes (now (file .entry)) number (lentTable m x count (now (rows .entry))) (now (out .entry)) (now (out .exit)) (now (answer .exit)) ⌝ }
+    ensures { λ _. ⌜ Writes (now (file .entry)) number (lentTable (now (table .entry))) (now (out .entry)) (now (out .exit)) (now (answer .exit)) ⌝ }
 {
-    let t = lent::read_table(m, x, count, rows);
+    let t = lent::read_table(table);
     *answer = answers::of_written(file_put::put(file, number, t, out));
 }

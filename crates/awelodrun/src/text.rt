@@ -6,7 +6,7 @@ use text_shift::TEXT;
 
 // Writes the text of a file, and gives its length.
 #[no_mangle]
-pub extern "C" fn awelodrun_shift_text(
+pub extern "C" fn awelodrun_raw_shift_text(
     file: &[u8],
     map: &mut [Set; SLOTS],
     pins: &mut [Set; SLOTS],

@@ -33,7 +33,7 @@ module _ (t : Table) (full : length (t .rows) ≡ mostRows) where
   head-written l e = upto-three (upto-none (numbersOf t) l (e ∙ sym length-numbers)) (omega (arith, length-numbers)) refl refl refl
 
   -- what stands after them
-  past-head : (k o : ℕ) → k ≡ 3 + o → getD (numbersOf t) k 0 ≡ getD (threes T C D (t .rows)) o 0
+  pub past-head : (k o : ℕ) → k ≡ 3 + o → getD (numbersOf t) k 0 ≡ getD (threes T C D (t .rows)) o 0
   unfolding numbersOf
   past-head k o e =
       let s : k ≡ suc (suc (suc o)) = omega arith in

@@ -1,6 +1,6 @@
 -- What stands where, in three numbers of each member of a list in turn.
 use mathlib.Core.Path.{_≡_, refl, sym, ap, _∙_}
-use mathlib.Core.List.{List, [], _∷_}
+use mathlib.Core.List.{List, [], _∷_, _++_}
 use Prim.Native.Nat.{ℕ, zero, suc, _+_, _*_, _<_}
 use native.Mathlib.Omega.{arith}
 use lib.ListN.{length, getD, set, drop}
@@ -13,6 +13,11 @@ module _ {A : Type 0} (f g h : A → ℕ) (d : A) where
   unfolding threes
   length-threes [] = refl
   length-threes (a ∷ l) = omega (arith, length-threes l)
+
+  pub threes-append : (l m : List A) → threes f g h (l ++ m) ≡ threes f g h l ++ threes f g h m
+  unfolding threes
+  threes-append [] m = refl
+  threes-append (a ∷ l) m = ap (λ (r : List ℕ). f a ∷ g a ∷ h a ∷ r) (threes-append l m)
 
   drop-threes : (l : List A) (i : ℕ) → drop (3 * i) (threes f g h l) ≡ threes f g h (drop i l)
   unfolding threes

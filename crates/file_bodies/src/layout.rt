@@ -16,8 +16,8 @@ pub const ROW: usize = 6;
 pub const BODY: usize = HEAD + ROW * ROWS;
 
 // Where row i begins, and so where a body of i rows ends.
-pub fn row_place(i: u8) -> usize
-    ensures { λ r. ⌜ Cast 11 (rowPlace i) r ⌝ }
+pub fn row_place(i: u16) -> usize
+    ensures { λ r. ⌜ Cast 19 (rowPlace i) r ⌝ }
 {
-    HEAD + ROW * widths::size_of_byte(i)
+    HEAD + ROW * widths::size_of_half(i)
 }

@@ -4,6 +4,7 @@ ghost use Prim.Native.Nat.{min, _+_, _≤_, _<_};
 ghost use lib.ListN.{length, take, replicate};
 ghost use Rattle.table_row.specs.Limits.{mostRows};
 ghost use Rattle.table.specs.Rows.{roomBy};
+ghost use Rattle.table.specs.Check.{tableRefusal};
 ghost use Rattle.file_bytes.specs.Over.{over};
 ghost use Rattle.file_bodies.specs.Layout.{bodyHead, rowLength, mostBody};
 ghost use Rattle.file_bodies.specs.Body.{rowOf, bodyTable, tableAt, rowBytes, rowsBytes, tableBytes};
@@ -22,19 +23,19 @@ use layout::FIELD;
 use layout::HEAD;
 
 // As many rows as there is room for.
-const ROOM: u8 = ROWS as u8;
+const ROOM: u16 = ROWS as u16;
 
 // A row count as far as there is room.
-fn room(count: u8) -> u8
+fn room(count: u16) -> u16
     ensures { λ r. ⌜ r ≡ min count mostRows ⌝ }
 {
-    if widths::size_of_byte(count) < ROWS {
+    if widths::size_of_half(count) < ROWS {
         return count;
     }
     ROOM
 }
 
-fn read_row(b: &[u8], i: u8) -> Row
+fn read_row(b: &[u8], i: u16) -> Row
     ensures { λ r. ⌜ r ≡ rowOf (now (b .entry)) i ⌝ }
 {
     let at = layout::row_place(i);
@@ -46,15 +47,15 @@ fn read_row(b: &[u8], i: u8) -> Row
 }
 
 // The first n rows, and zeros after them.
-fn read_rows(b: &[u8], n: u8) -> [Row; ROWS]
+fn read_rows(b: &[u8], n: u16) -> [Row; ROWS]
     requires { ⌜ n ≤ mostRows ⌝ }
     ensures { λ r. ⌜ r ≡ roomBy (rowOf (now (b .entry))) n ⌝ }
 {
     let none = table_row::no_row();
     let mut rows = [none; ROWS];
-    let mut i: u8 = 0;
+    let mut i: u16 = 0;
     while i < n {
-        rows[widths::size_of_byte(i)] = read_row(b, i);
+        rows[widths::size_of_half(i)] = read_row(b, i);
         i += 1;
     }
     rows
@@ -65,9 +66,9 @@ pub fn read_table(b: &[u8]) -> Table
     ensures { λ r. ⌜ r ≡ bodyTable (now (b .entry)) ⌝ }
 {
     let mut t = table::no_table();
-    t.processors = file_bytes::byte_at(b, 0);
-    t.depth = file_bytes::byte_at(b, 1);
-    t.count = file_bytes::byte_at(b, 2);
+    t.processors = widths::half_of_byte(file_bytes::byte_at(b, 0));
+    t.depth = widths::half_of_byte(file_bytes::byte_at(b, 1));
+    t.count = widths::half_of_byte(file_bytes::byte_at(b, 2));
     let rows = read_rows(b, room(t.count));
     t.rows = rows;
     t
@@ -90,7 +91,7 @@ pub fn body_refusal(b: &[u8]) -> Refusal
     if file_bytes::byte_at(b, 3) != 0 {
         return refusal::refuse(15);
     }
-    if b.len() != layout::row_place(file_bytes::byte_at(b, 2)) {
+    if b.len() != layout::row_place(widths::half_of_byte(file_bytes::byte_at(b, 2))) {
         return refusal::refuse(15);
     }
     table::refusal_of(read_table(b))
@@ -106,26 +107,27 @@ fn put_row(out: &mut [u8], at: usize, r: Row)
 }
 
 // Writes the first n rows at their places.
-fn put_rows(out: &mut [u8], t: Table, n: u8)
+fn put_rows(out: &mut [u8], t: Table, n: u16)
     requires { ⌜ (n ≤ mostRows) × (length (now out) ≡ mostBody) ⌝ }
     ensures { λ _. ⌜ now (out .exit) ≡ over (now (out .entry)) bodyHead (rowsBytes (take n (t .rows))) ⌝ }
 {
-    let mut i: u8 = 0;
+    let mut i: u16 = 0;
     while i < n {
-        let row = t.rows[widths::size_of_byte(i)];
+        let row = t.rows[widths::size_of_half(i)];
         put_row(out, layout::row_place(i), row);
         i += 1;
     }
 }
 
-// The body of a table, and zeros after it.
+// The body of an accepted table, and zeros after it.
 pub fn table_bytes(t: Table) -> [u8; BODY]
+    requires { ⌜ tableRefusal t .no ≡ 0 ⌝ }
     ensures { λ r. ⌜ r ≡ over (replicate mostBody 0) 0 (tableBytes t) ⌝ }
 {
     let mut out = [0u8; BODY];
-    out[0] = t.processors;
-    out[1] = t.depth;
-    out[2] = t.count;
+    out[0] = t.processors as u8;
+    out[1] = t.depth as u8;
+    out[2] = t.count as u8;
     out[3] = 0;
     put_rows(&mut out, t, room(t.count));
     out

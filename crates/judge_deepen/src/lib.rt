@@ -29,8 +29,8 @@ pub fn deepen(t: Table, h: usize, map: &mut [Set], pins: &mut [Set]) -> bool
     requires { ⌜ Accepted t h × (h ≤ length (now map)) × (h ≤ length (now pins)) ⌝ }
     ensures { λ r. ⌜ Deepened (modelOf t) h (now (map .entry)) (now (pins .entry)) (now (map .exit)) (now (pins .exit)) r ⌝ }
 {
-    few_enough(map, pins, h, widths::word_of_byte(t.processors));
-    let n = widths::size_of_byte(t.count);
+    few_enough(map, pins, h, widths::word_of_half(t.processors));
+    let n = widths::size_of_half(t.count);
     let mut changed = false;
     let mut i: usize = 0;
     while i < n {
@@ -48,7 +48,7 @@ pub fn deep(t: Table, h: usize, map: &mut [Set], pins: &mut [Set])
     ensures { λ _. ⌜ Reached (modelOf t) (t .depth) h (now (map .entry)) (now (pins .entry)) (now (map .exit)) (now (pins .exit)) ⌝ }
 {
     sets::clear(pins, h);
-    let x = widths::size_of_byte(t.depth);
+    let x = widths::size_of_half(t.depth);
     let mut y: usize = 1;
     while y < x {
         if !deepen(t, h, map, pins) {

@@ -65,7 +65,7 @@ pub fn first_map(t: Table, h: usize, map: &mut [Set])
     requires { ⌜ Accepted t h × (h ≤ length (now map)) ⌝ }
     ensures { λ _. ⌜ Over (words (modelOf t) (available (modelOf t) 1)) 0 h (now (map .entry)) (now (map .exit)) ⌝ }
 {
-    let n = widths::size_of_byte(t.count);
+    let n = widths::size_of_half(t.count);
     let mut periods = [0u32; ROWS];
     let mut deadlines = [0u32; ROWS];
     columns(t, n, &mut periods, &mut deadlines);

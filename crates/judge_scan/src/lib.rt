@@ -106,8 +106,8 @@ pub fn scan(t: Table, h: usize, map: &[Set]) -> Line
     ensures { λ r. ⌜ Scanned t h (now (map .entry)) r ⌝ }
 {
     let mut due = [0u32; SLOTS];
-    dues(t, widths::size_of_byte(t.count), h, &mut due);
+    dues(t, widths::size_of_half(t.count), h, &mut due);
     let mut usable = [0u32; SLOTS];
-    usables(map, widths::word_of_byte(t.processors), h, &mut usable);
+    usables(map, widths::word_of_half(t.processors), h, &mut usable);
     least(&due, &usable, h)
 }

@@ -14,18 +14,19 @@ use table_row::limits::ROWS;
 use table_row::limits::SLOTS;
 
 // Processors m, depth x, and room for the rows, of which the first `count` matter.
+#[repr(C)]
 pub struct Table {
-    pub processors: u8,
-    pub depth: u8,
-    pub count: u8,
+    pub processors: u16,
+    pub depth: u16,
+    pub count: u16,
     pub rows: [Row; ROWS],
 }
 
 // What stands beside the rows: m and x.
 #[repr(C)]
 pub struct Beside {
-    pub processors: u8,
-    pub depth: u8,
+    pub processors: u16,
+    pub depth: u16,
 }
 
 // What a check of a table answers: the frame, or a refusal.
@@ -127,10 +128,10 @@ pub fn step(s: Seen, row: Row) -> Seen
 pub fn finish(s: Seen) -> Checked
     ensures { λ r. ⌜ numbers r ≡ finishOf s ⌝ }
 {
-    if !ranges::within(1, widths::size_of_byte(s.beside.processors), PROCESSORS) {
+    if !ranges::within(1, widths::size_of_half(s.beside.processors), PROCESSORS) {
         return refused(1, 0);
     }
-    if !ranges::within(1, widths::size_of_byte(s.beside.depth), DEPTHS) {
+    if !ranges::within(1, widths::size_of_half(s.beside.depth), DEPTHS) {
         return refused(2, 0);
     }
     if !ranges::within(1, widths::size_of_byte(s.count), ROWS) {
@@ -159,7 +160,7 @@ pub fn beside_of(t: Table) -> Beside
 pub fn check(t: Table) -> Checked
     ensures { λ r. ⌜ numbers r ≡ checkOf t ⌝ }
 {
-    let n = widths::size_of_byte(t.count);
+    let n = widths::size_of_half(t.count);
     let mut s = start(beside_of(t));
     if ROWS < n {
         s.count = MANY;

@@ -39,7 +39,7 @@ fn with_row(t: Table, row: Row) -> Table
     ensures { λ r. ⌜ r ≡ added t row ⌝ }
 {
     let rows = t.rows;
-    let n = widths::size_of_byte(t.count);
+    let n = widths::size_of_half(t.count);
     let empty = table::no_rows();
     let mut kept = copied(empty, 0, rows, 0, n);
     kept[n] = row;
@@ -49,13 +49,13 @@ fn with_row(t: Table, row: Row) -> Table
     u
 }
 
-fn without_row(t: Table, index: u8) -> Table
+fn without_row(t: Table, index: u32) -> Table
     requires { ⌜ (index < t .count) × (t .count ≤ mostRows) ⌝ }
     ensures { λ r. ⌜ r ≡ removed t index ⌝ }
 {
     let rows = t.rows;
-    let n = widths::size_of_byte(t.count);
-    let at = widths::size_of_byte(index);
+    let n = widths::size_of_half(t.count);
+    let at = widths::size_of_word(index);
     let empty = table::no_rows();
     let before = copied(empty, 0, rows, 0, at);
     let kept = copied(before, at, rows, at + 1, n - (at + 1));
@@ -103,14 +103,14 @@ pub fn add(t: Table, row: Row) -> Edited
             table: t,
         };
     }
-    if ROWS <= widths::size_of_byte(t.count) {
+    if ROWS <= widths::size_of_half(t.count) {
         return refused(t, 3);
     }
     settled(t, with_row(t, row))
 }
 
 // Takes the row at an index, and moves later rows up by one.
-pub fn remove(t: Table, index: u8) -> Edited
+pub fn remove(t: Table, index: u32) -> Edited
     ensures { λ r. ⌜ r ≡ removeOf t index ⌝ }
 {
     let given = table::refusal_of(t);
@@ -120,7 +120,7 @@ pub fn remove(t: Table, index: u8) -> Edited
             table: t,
         };
     }
-    if t.count <= index {
+    if widths::word_of_half(t.count) <= index {
         return refused(t, 18);
     }
     settled(t, without_row(t, index))

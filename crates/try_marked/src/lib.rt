@@ -11,9 +11,9 @@ use table_row::Row;
 // A table of up to four rows (T, C and D of each in turn, then zeros); its frame, and its line (t, work and supply, or zeros);
 // and as many words of both lists as are told.
 pub struct Case {
-    pub processors: u8,
-    pub depth: u8,
-    pub count: u8,
+    pub processors: u16,
+    pub depth: u16,
+    pub count: u16,
     pub rows: [u16; 12],
     pub frame: u32,
     pub line: [u32; 3],
@@ -158,7 +158,7 @@ fn row_from(l: [u16; 12], k: usize) -> Row
 }
 
 // A table from T, C and D of four rows in turn, with zeros past them.
-pub fn table_from(processors: u8, depth: u8, count: u8, rows: [u16; 12]) -> Table
+pub fn table_from(processors: u16, depth: u16, count: u16, rows: [u16; 12]) -> Table
     ensures { λ r. ⌜ r ≡ tableFrom processors depth count rows ⌝ }
 {
     let mut t = table::no_table();

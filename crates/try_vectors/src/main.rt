@@ -24,18 +24,22 @@ fn bytes(a: u8, b: u8, c: u8) {
     );
 }
 
-fn row(r: Row) {
+fn halves(a: u16, b: u16, c: u16) {
     text::three(
-        widths::word_of_half(r.period),
-        widths::word_of_half(r.execution),
-        widths::word_of_half(r.deadline),
+        widths::word_of_half(a),
+        widths::word_of_half(b),
+        widths::word_of_half(c),
     );
+}
+
+fn row(r: Row) {
+    halves(r.period, r.execution, r.deadline);
 }
 
 fn table(name: &[u8], t: Table) {
     let rows = t.rows;
     text::word(name);
-    bytes(t.processors, t.depth, t.count);
+    halves(t.processors, t.depth, t.count);
     text::word(b" rows");
     row(rows[0]);
     row(rows[1]);

@@ -105,7 +105,7 @@ pub fn entry(i: usize) -> Try
     requires { ⌜ i < 39 ⌝ }
 {
     let l = numbers(i);
-    let table = try_marked::table_from(byte(l[0]), byte(l[1]), byte(l[2]), rows(l));
+    let table = try_marked::table_from(l[0], l[1], l[2], rows(l));
     Try {
         ladder: LADDERS <= i,
         table,

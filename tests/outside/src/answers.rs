@@ -8,8 +8,7 @@ pub struct Refusal {
     pub row: u32,
 }
 
-/// One row (T, C, D), as it stands in a lent list too.
-#[repr(C)]
+/// One row (T, C, D).
 #[derive(Clone, Copy, Debug, Default, PartialEq, Eq)]
 pub struct Row {
     pub period: u16,
@@ -20,9 +19,9 @@ pub struct Row {
 /// "processors m, depth x, a row count, and room for 32 rows (T, C, D)"
 #[derive(Clone, Copy, Debug, Default, PartialEq, Eq)]
 pub struct Table {
-    pub m: u8,
-    pub x: u8,
-    pub count: u8,
+    pub m: u16,
+    pub x: u16,
+    pub count: u16,
     pub rows: [Row; 32],
 }
 
@@ -94,10 +93,13 @@ impl Ladder {
 }
 
 impl Table {
-    /// A table of the given rows (T, C, D), zeros past them.
-    pub fn of(m: u8, x: u8, rows: &[(u16, u16, u16)]) -> Table {
-        let numbers: Vec<u16> = rows.iter().flat_map(|&(t, c, d)| [t, c, d]).collect();
-        Given { m, x, count: rows.len() as u8, numbers }.table()
+    /// A table of the given rows (T, C, D), zeros past them; there is room for 32, whatever the count.
+    pub fn of(m: u16, x: u16, rows: &[(u16, u16, u16)]) -> Table {
+        let mut table = Table { m, x, count: rows.len() as u16, ..Table::default() };
+        for (row, &(period, execution, deadline)) in table.rows.iter_mut().zip(rows) {
+            *row = Row { period, execution, deadline };
+        }
+        table
     }
 
     /// The rows that count.
@@ -106,35 +108,27 @@ impl Table {
     }
 }
 
-/// The rows of a list of numbers, T, C, D of each in turn; what a last row lacks is 0.
-pub fn rows_of(numbers: &[u16]) -> Vec<Row> {
-    let row = |three: &[u16]| {
-        let number = |k: usize| three.get(k).copied().unwrap_or(0);
-        Row { period: number(0), execution: number(1), deadline: number(2) }
-    };
-    numbers.chunks(3).map(row).collect()
-}
-
-/// A table as a caller of the static library passes it: T, C, D of each row in turn.
-#[derive(Clone, Debug, PartialEq, Eq)]
-pub struct Given {
-    pub m: u8,
-    pub x: u8,
-    pub count: u8,
-    pub numbers: Vec<u16>,
-}
+/// A table as a caller lends it, always whole: m, x, count, then T, C, D of 32 rows.
+#[derive(Clone, Copy, Debug, PartialEq, Eq)]
+pub struct Given(pub [u16; 99]);
 
 impl Given {
-    /// The table that is meant: missing numbers are 0, numbers past the 96th are not looked at.
     pub fn table(&self) -> Table {
-        let number = |k: usize| self.numbers.get(k).copied().unwrap_or(0);
-        let row = |i: usize| Row { period: number(3 * i), execution: number(3 * i + 1), deadline: number(3 * i + 2) };
-        Table { m: self.m, x: self.x, count: self.count, rows: std::array::from_fn(row) }
+        let row =
+            |i: usize| Row { period: self.0[3 + 3 * i], execution: self.0[4 + 3 * i], deadline: self.0[5 + 3 * i] };
+        Table { m: self.0[0], x: self.0[1], count: self.0[2], rows: std::array::from_fn(row) }
     }
 
-    /// All 96 numbers of a table, whatever its count.
+    /// All 99 numbers of a table, whatever its count.
     pub fn from_table(table: &Table) -> Given {
-        let numbers = table.rows.iter().flat_map(|row| [row.period, row.execution, row.deadline]).collect();
-        Given { m: table.m, x: table.x, count: table.count, numbers }
+        let mut numbers = [table.m; 99];
+        numbers[1] = table.x;
+        numbers[2] = table.count;
+        for (i, row) in table.rows.iter().enumerate() {
+            numbers[3 + 3 * i] = row.period;
+            numbers[4 + 3 * i] = row.execution;
+            numbers[5 + 3 * i] = row.deadline;
+        }
+        Given(numbers)
     }
 }

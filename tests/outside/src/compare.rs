@@ -2,7 +2,7 @@
 
 use crate::answers::{Checked, Filed, Given, Judged, Ladder, Row, Tabled, Written};
 use crate::lend::{bytes, words, Lent};
-use crate::reference::{text, Reference};
+use crate::reference::Reference;
 use crate::run::{Difference, Outcome, Run};
 use crate::subject::Subject;
 use std::fmt::{Debug, Write};
@@ -30,9 +30,9 @@ fn show_file(file: &[u8]) -> String {
 }
 
 fn show_table(given: &Given) -> String {
-    let Given { m, x, count, numbers } = given;
-    let rows: Vec<String> = numbers.chunks(3).map(|row| format!("{row:?}")).collect();
-    format!("table m {m} x {x} count {count} rows {} ({} numbers)", rows.join(" "), numbers.len())
+    let [m, x, count, rows @ ..] = &given.0;
+    let rows: Vec<String> = rows.chunks(3).map(|row| format!("{row:?}")).collect();
+    format!("table m {m} x {x} count {count} rows {}", rows.join(" "))
 }
 
 /// Two lent lists must be the same, sides included.
@@ -58,7 +58,7 @@ pub fn check(run: &mut Run, given: &Given) -> Compared<Checked> {
     Ok(expected)
 }
 
-pub fn check_list(run: &mut Run, m: u8, x: u8, rows: &[Row]) -> Compared<Checked> {
+pub fn check_list(run: &mut Run, m: u16, x: u16, rows: &[Row]) -> Compared<Checked> {
     let expected = Reference.check_list(m, x, rows);
     let got = run.subject.check_list(m, x, rows);
     run.same(|| format!("check of the list m {m} x {x} {rows:?}"), expected, got)?;
@@ -101,7 +101,7 @@ pub fn add(run: &mut Run, given: &Given, row: Row) -> Compared<Tabled> {
     Ok(expected)
 }
 
-pub fn remove(run: &mut Run, given: &Given, index: u8) -> Compared<Tabled> {
+pub fn remove(run: &mut Run, given: &Given, index: u32) -> Compared<Tabled> {
     let expected = Reference.remove(given, index);
     let got = run.subject.remove(given, index);
     run.same(|| format!("remove of {index} from {}", show_table(given)), expected, got)?;
@@ -134,14 +134,26 @@ pub fn put(run: &mut Run, file: &[u8], number: u16, given: &Given, length: usize
     Ok(expected)
 }
 
-/// The program's text, where the library has it; the lists are 4,096 words and the output is long enough.
-pub fn shift_text(run: &mut Run, file: &[u8]) -> Outcome {
-    let mut map = words(&mut run.random, 4096);
-    let mut pins = words(&mut run.random, 4096);
+/// A lent list of the 4,096 words or bytes that the text's function takes.
+fn whole<T: Copy>(lent: &mut Lent<T>) -> &mut [T; 4096] {
+    lent.list().try_into().expect("4,096 are lent")
+}
+
+/// The program's text, all that is left in the lists, and the output past the text; gives the text.
+pub fn shift_text(run: &mut Run, file: &[u8]) -> Compared<String> {
+    let [mut map, mut pins, mut got_map, mut got_pins] = two_lists(run, (4096, 4096));
     let mut out = bytes(&mut run.random, 4096);
-    let Some(length) = run.subject.shift_text(file, map.list(), pins.list(), out.list()) else {
-        return Ok(());
-    };
-    let got = String::from_utf8_lossy(&out.list()[..length.min(4096)]).into_owned();
-    run.same(|| format!("text of {}", show_file(file)), text::program_text(file), got)
+    let mut got_out = out.clone();
+    let length = Reference.shift_text(file, whole(&mut map), whole(&mut pins), whole(&mut out));
+    let got = run.subject.shift_text(file, whole(&mut got_map), whole(&mut got_pins), whole(&mut got_out));
+    let input = || format!("text of {}", show_file(file));
+    let text =
+        |out: &mut Lent<u8>, length: usize| String::from_utf8_lossy(&out.list()[..length.min(4096)]).into_owned();
+    let expected = text(&mut out, length);
+    let got_text = text(&mut got_out, got);
+    run.same(input, (length, &expected), (got, &got_text))?;
+    same_list(run, input, "output", &out, &got_out)?;
+    same_list(run, input, "map", &map, &got_map)?;
+    same_list(run, input, "pins", &pins, &got_pins)?;
+    Ok(expected)
 }

@@ -39,14 +39,14 @@ fn number_of_rows(random: &mut Random) -> usize {
 }
 
 /// Processors: any number, or one near the number of rows or half of it, where pins come about.
-fn processors(random: &mut Random, count: usize) -> u8 {
+fn processors(random: &mut Random, count: usize) -> u16 {
     let m = match random.below(4) {
         0 => random.from_to(1, 16),
         1 => count.saturating_sub(random.below(3)),
         2 => count.div_ceil(2) + random.below(2),
         _ => random.from_to(1, count),
     };
-    m.clamp(1, 16) as u8
+    m.clamp(1, 16) as u16
 }
 
 /// One row of a period: D up to T, C up to D, both often at their bounds.
@@ -72,7 +72,7 @@ fn loaded(random: &mut Random, size: Size) -> Table {
     let most = if random.once_in(4) { 16 } else { 4 };
     let m = random.from_to(1, most);
     let count = (m + random.from_to(1, m + 1)).min(32);
-    let mut table = Table { m: m as u8, x: random.from_to(1, 8) as u8, count: count as u8, ..Table::default() };
+    let mut table = Table { m: m as u16, x: random.from_to(1, 8) as u16, count: count as u16, ..Table::default() };
     let weights: Vec<usize> = (0..count).map(|_| random.from_to(1, 100)).collect();
     let load = random.from_to(70, 105) * m;
     for (row, weight) in table.rows.iter_mut().zip(&weights) {
@@ -100,8 +100,8 @@ pub fn good(random: &mut Random, size: Size) -> Table {
             row(random, period, style)
         })
         .collect();
-    let mut table = Table { m: processors(random, count), x: random.from_to(1, 8) as u8, ..Table::default() };
-    table.count = count as u8;
+    let mut table = Table { m: processors(random, count), x: random.from_to(1, 8) as u16, ..Table::default() };
+    table.count = count as u16;
     for i in 0..count {
         table.rows[i] = if kinds == count { some[i] } else { random.pick(&some) };
     }
@@ -131,15 +131,35 @@ fn bound(random: &mut Random, near: u16) -> u16 {
     }
 }
 
+/// A number whose lower byte may well be in range, and which is not.
+pub fn wide(random: &mut Random, near: u16) -> u16 {
+    match random.below(4) {
+        0 => near.wrapping_add(256),
+        1 => near.wrapping_add(256 * random.from_to(1, 255) as u16),
+        2 => random.pick(&[256, 257, 259, 272, 32_768, 65_280, 65_535]),
+        _ => random.next() as u16 | 256,
+    }
+}
+
+/// An index of a row: near the count, or one whose lower bits are.
+pub fn index(random: &mut Random) -> u32 {
+    let near = random.below(40) as u32;
+    let any = random.next() as u32;
+    random.pick(&[near, near, near + 256, near + 65_536, near | 1 << 24, 300, 65_536, u32::MAX, any])
+}
+
 /// Changes one number of a table.
 fn damage(random: &mut Random, table: &mut Table) {
     let i = random.below(32);
     let row = if random.once_in(8) { i } else { i % (table.count as usize).clamp(1, 32) };
     let row = &mut table.rows[row];
-    match random.below(7) {
+    match random.below(10) {
         0 => table.m = random.pick(&[0, 1, 16, 17, 255]),
         1 => table.x = random.pick(&[0, 1, 8, 9, 255]),
         2 => table.count = random.pick(&[0, 1, 31, 32, 33, 64, 128, 255]),
+        7 => table.m = wide(random, table.m),
+        8 => table.x = wide(random, table.x),
+        9 => table.count = wide(random, table.count),
         3 => row.period = bound(random, row.period),
         4 => row.deadline = bound(random, row.period),
         5 => row.execution = bound(random, row.deadline),
@@ -147,7 +167,7 @@ fn damage(random: &mut Random, table: &mut Table) {
     }
 }
 
-/// A table as a caller may pass it: good, with a fault or two, or any numbers; and with anything past the count.
+/// A table as a caller may lend it: good, with a fault or two, or any numbers; and with anything past the count.
 pub fn any(random: &mut Random) -> Given {
     let mut table = good(random, Size::Small);
     for _ in 0..random.below(3) {
@@ -155,17 +175,11 @@ pub fn any(random: &mut Random) -> Given {
     }
     let mut given = Given::from_table(&table);
     if random.once_in(2) {
-        let used = 3 * (table.count as usize).min(32);
-        for number in &mut given.numbers[used..] {
-            *number = random.next() as u16;
-        }
+        let used = 3 + 3 * (table.count as usize).min(32);
+        given.0[used..].iter_mut().for_each(|number| *number = random.next() as u16);
     }
-    match random.below(8) {
-        0 => given.numbers.truncate(3 * table.count as usize),
-        1 => given.numbers.truncate(random.below(97)),
-        2 => given.numbers.extend([7, 8, 9]),
-        3 => given.numbers = (0..random.below(120)).map(|_| random.next() as u16).collect(),
-        _ => {}
+    if random.once_in(8) {
+        given.0.iter_mut().for_each(|number| *number = random.next() as u16);
     }
     given
 }

@@ -142,7 +142,7 @@ fn read_errors(program: &Program) -> Result<u64, String> {
 }
 
 /// Random files, good and changed, whole.
-fn files(program: &Program, random: &mut Random, seconds: f64) -> Result<u64, String> {
+fn random_files(program: &Program, random: &mut Random, seconds: f64) -> Result<u64, String> {
     let begin = Instant::now();
     let mut cases = 0;
     while begin.elapsed().as_secs_f64() < seconds {
@@ -157,13 +157,19 @@ fn files(program: &Program, random: &mut Random, seconds: f64) -> Result<u64, St
     Ok(cases)
 }
 
-/// All tests of the program; tells the count of each group.
-pub fn run(program: &Program, seconds: f64, mut tell: impl FnMut(&str, u64)) -> Result<(), String> {
+/// All tests of the program; tells the count of each group. With a seed, half of the random files are drawn from it.
+pub fn run(program: &Program, seconds: f64, seed: Option<u64>, mut tell: impl FnMut(&str, u64)) -> Result<(), String> {
     let mut random = Random::new(38);
     program.expect_text("the worked file", &WORKED, Way::Whole)?;
     tell("program: lengths", lengths(program)?);
     tell("program: input in pieces", pieces(program, &mut random)?);
     tell("program: read errors", read_errors(program)?);
-    tell("program: random files", files(program, &mut random, seconds)?);
+    let seconds = if seed.is_some() { seconds / 2.0 } else { seconds };
+    tell("program: random files", random_files(program, &mut random, seconds)?);
+    if let Some(seed) = seed {
+        let cases = random_files(program, &mut Random::new(seed), seconds);
+        let cases = cases.map_err(|difference| format!("{difference}\nseed:     {seed}"))?;
+        tell("program: random files, of the seed", cases);
+    }
     Ok(())
 }

@@ -1,6 +1,14 @@
-//! A small generator of random numbers with a fixed seed (splitmix64), so that each run draws the same inputs.
+//! A small generator of random numbers from a seed (splitmix64): the same seed draws the same inputs.
+
+use std::collections::hash_map::RandomState;
+use std::hash::{BuildHasher, Hasher};
 
 pub struct Random(u64);
+
+/// A seed that no one has seen before: the standard library takes its hash maps' keys from the system's random numbers.
+pub fn new_seed() -> u64 {
+    RandomState::new().build_hasher().finish()
+}
 
 impl Random {
     pub fn new(seed: u64) -> Random {

@@ -17,7 +17,7 @@ impl Subject for Reference {
     fn check(&self, given: &Given) -> Checked {
         table::check(&given.table())
     }
-    fn check_list(&self, m: u8, x: u8, rows: &[Row]) -> Checked {
+    fn check_list(&self, m: u16, x: u16, rows: &[Row]) -> Checked {
         table::check_list(m, x, rows)
     }
     fn judge(&self, given: &Given, map: &mut [u32], pins: &mut [u32]) -> Judged {
@@ -29,7 +29,7 @@ impl Subject for Reference {
     fn add(&self, given: &Given, row: Row) -> Tabled {
         edit::add(&given.table(), row)
     }
-    fn remove(&self, given: &Given, index: u8) -> Tabled {
+    fn remove(&self, given: &Given, index: u32) -> Tabled {
         edit::remove(&given.table(), index)
     }
     fn file_check(&self, bytes: &[u8]) -> Filed {
@@ -41,9 +41,9 @@ impl Subject for Reference {
     fn put(&self, bytes: &[u8], number: u16, given: &Given, out: &mut [u8]) -> Written {
         put::put(bytes, number, &given.table(), out)
     }
-    fn shift_text(&self, bytes: &[u8], map: &mut [u32], pins: &mut [u32], out: &mut [u8]) -> Option<usize> {
+    fn shift_text(&self, bytes: &[u8], map: &mut [u32; 4096], pins: &mut [u32; 4096], out: &mut [u8; 4096]) -> usize {
         let text = text::shift_text(bytes, map, pins);
         out[..text.len()].copy_from_slice(text.as_bytes());
-        Some(text.len())
+        text.len()
     }
 }

@@ -2,7 +2,7 @@
 
 use outside::reference::text::program_text;
 use outside::reference::{judge, table, Reference};
-use outside::suite::{verdicts, WORKED};
+use outside::suite::{names, verdicts, Plan, WORKED};
 
 #[test]
 fn document_01_and_the_easily_misread() {
@@ -58,6 +58,13 @@ fn lists_of_rows() {
 /// Every group passes with the reference in the library's place, and has cases.
 #[test]
 fn the_whole_suite_on_the_reference() {
-    outside::suite::run(&Reference, 0.0, |report| assert!(report.cases > 0, "{} is empty", report.name))
-        .unwrap_or_else(|difference| panic!("{difference}"));
+    let plan = Plan { seed: Some(1), ..Plan::default() };
+    let mut groups = vec![];
+    outside::suite::run(&Reference, &plan, |report| {
+        assert!(report.cases > 0, "{} is empty", report.name);
+        groups.push(report.name);
+    })
+    .unwrap_or_else(|difference| panic!("{difference}"));
+    groups.dedup();
+    assert_eq!(groups, names());
 }

@@ -5,7 +5,7 @@ use outside::program::{run, Program};
 fn stand_in(wrong: &[&str]) -> Result<(), String> {
     let path = env!("CARGO_BIN_EXE_shift-stand-in").to_string();
     let args = wrong.iter().map(|word| word.to_string()).collect();
-    run(&Program { path, args }, 1.0, |_, cases| assert!(cases > 0))
+    run(&Program { path, args }, 1.0, Some(2), |_, cases| assert!(cases > 0))
 }
 
 #[test]

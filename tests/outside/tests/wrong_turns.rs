@@ -2,17 +2,18 @@
 
 use outside::answers::Given;
 use outside::subject::Subject;
-use outside::suite;
+use outside::suite::{self, Plan};
 use outside::wrong::{turns, Wrong};
 
 #[test]
 fn no_wrong_turn_is_no_difference() {
-    suite::run(&Wrong(""), 0.0, |_| {}).unwrap_or_else(|difference| panic!("{difference}"));
+    suite::run(&Wrong(""), &Plan::default(), |_| {}).unwrap_or_else(|difference| panic!("{difference}"));
 }
 
 #[test]
 fn every_wrong_turn_is_noticed() {
-    let missed: Vec<&str> = turns().into_iter().filter(|turn| suite::run(&Wrong(turn), 0.0, |_| {}).is_ok()).collect();
+    let is_missed = |turn: &&'static str| suite::run(&Wrong(turn), &Plan::default(), |_| {}).is_ok();
+    let missed: Vec<&str> = turns().into_iter().filter(is_missed).collect();
     assert!(missed.is_empty(), "of {} wrong turns these go unnoticed: {missed:?}", turns().len());
 }
 

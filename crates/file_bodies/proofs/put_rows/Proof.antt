@@ -36,7 +36,7 @@ loop-again c =
     let a = at .before .before .args in
     let w = rows-long (at .before .before) in
     let e : c .before .before .before .row-place .result ≡ rowPlace (l .i) = c .before .before .before .row-place .ensures .same in
-    let r = c .before .before .before .before .before .before .size-of-byte .ensures .same in (
+    let r = c .before .before .before .before .before .before .size-of-half .ensures .same in (
       omega arith,
       c .before .before .put-row .kept .0 ∙ l .inv .1,
       row-next _ (l .out) _ (a .t2 .rows) (l .i) (omega arith) (omega arith) (l .inv .2) (c .before .before .put-row .ensures ∙ (λ j. over (l .out) (e j) (rowBytes (getD (a .t2 .rows) (r j) noRow)))),

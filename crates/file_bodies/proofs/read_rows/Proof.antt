@@ -22,7 +22,7 @@ loop-holds c = (omega arith, ap (replicate mostRows) (c .no-row .ensures) ∙ ro
 loop-again : tie.Need-loop-again Inv-loop μ-loop
 loop-again c =
     let l = c .before .before .before .loop in
-    (omega arith, (λ j. set (l .inv .1 j) (c .size-of-byte .ensures .same j) (c .before .read-row .ensures j)) ∙ room-more _ (l .i) (omega arith))
+    (omega arith, (λ j. set (l .inv .1 j) (c .size-of-half .ensures .same j) (c .before .read-row .ensures j)) ∙ room-more _ (l .i) (omega arith))
 
 returns : tie.Need-returns Inv-loop μ-loop
 returns c =

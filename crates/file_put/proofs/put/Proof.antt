@@ -69,6 +69,9 @@ many-is c =
     ∙ c .before .new-count .ensures
     ∙ ap₂ newCount (c .before .before .count .ensures) (c .before .before .before .before .seek-of .ensures)
 
+table-bytes-requires : tie.Need-table-bytes-requires
+table-bytes-requires c κs = early c .table
+
 returns : tie.Need-returns
 returns c = puts-none _ _ _ _ _ (c .before .before .early-refusal .ensures) (c .if1 .taken)
 
@@ -122,7 +125,7 @@ pub put-spec : {M : Type 1} → statement M
 put-spec =
     tie.close
     (tie.spec
-    (λ c κs. search needs) returns (λ c κs. search needs) (λ c κs. search needs)
+    (λ c κs. search needs) returns table-bytes-requires (λ c κs. search needs)
     array-share-prefix-buffer slice-aggregate-b (λ c κs. search needs) (λ c κs. search needs)
     (λ c κs. search needs) new-count-requires (λ c κs. search needs) array-share-prefix-list
     slice-aggregate-write write-requires (λ c. search needs) returns-2)

@@ -25,7 +25,7 @@ loop-holds c =
     let start = c .before .before .before .before .before .before .before in
     let zeros = c .before .before .before .clear .ensures in (
       omega arith,
-      omega (arith, c .size-of-byte .ensures .same, start .pre .0 .0 .x-low),
+      omega (arith, c .size-of-half .ensures .same, start .pre .0 .0 .x-low),
       reached-first _ _ (over-held (start .pre .1)) (over-held (holds-of zeros (start .pre .0 .2))),
     )
 
@@ -72,7 +72,7 @@ returns c =
     let st = at .before .before .before .before in
     let start = st .before .before .before .before .before .before .before .before in
     let a = start .pre .0 .0 in
-    let l : st .loop .y < start .args .t .depth = omega (arith, st .before .size-of-byte .ensures .same, at .before .before .before .loop-test .taken) in
+    let l : st .loop .y < start .args .t .depth = omega (arith, st .before .size-of-half .ensures .same, at .before .before .before .loop-test .taken) in
     reached-then _ _ (reached-first _ _ (over-held (start .pre .1)) (st .before .before .before .before .clear .ensures))
     (reached-then _ _ (st .loop .inv .2) (depth-stop _ (sound-model _ _ a) _ (divides-mod _ _ a) _ (st .loop .inv .0) (held st) (at .deepen .ensures) (not-true _ (c .if1 .taken)) _ l))
 
@@ -91,7 +91,7 @@ returns-2 : tie.Need-returns-2 Inv-loop μ-loop
 returns-2 c =
     let st = c .before in
     let start = st .before .before .before .before .before .before .before .before in
-    let e : st .loop .y ≡ start .args .t .depth = omega (arith, st .before .size-of-byte .ensures .same) in
+    let e : st .loop .y ≡ start .args .t .depth = omega (arith, st .before .size-of-half .ensures .same) in
     rw e at (reached-then _ _ (reached-first _ _ (over-held (start .pre .1)) (st .before .before .before .before .clear .ensures)) (st .loop .inv .2))
 
 pub deep-spec : {M : Type 1} → statement M

@@ -27,17 +27,17 @@ few-enough-requires c κs = (c .before .before .before .before .before .pre .1, 
 
 loop-holds : tie.Need-loop-holds Inv-loop μ-loop
 loop-holds c =
-    let m = c .before .before .before .before .word-of-byte in
+    let m = c .before .before .before .before .word-of-half in
     let t = c .before .before .before .before .before .before .before .before .before .args .t1 in
     let one : Sequential (modelOf t) (m .result) = rw (m .ensures .same) (sequential t) in
     (omega arith, refl, refl, λ A S held. first-pass _ A _ one held (c .before .before .before .few-enough .ensures))
 
 element-copy-out-row : tie.Need-element-copy-out-row Inv-loop μ-loop
-element-copy-out-row c = omega (arith, c .before .before .size-of-byte .ensures .same, c .before .before .before .before .before .before .before .before .before .before .before .pre .0 .count-high)
+element-copy-out-row c = omega (arith, c .before .before .size-of-half .ensures .same, c .before .before .before .before .before .before .before .before .before .before .before .pre .0 .count-high)
 
 -- the row is one of the table's
 below : (c : tie.In-loop Inv-loop μ-loop) → c .before .loop .i < c .before .before .before .before .before .before .before .before .before .before .before .args .t1 .count
-below c = omega (arith, c .before .before .size-of-byte .ensures .same, c .loop-test .taken)
+below c = omega (arith, c .before .before .size-of-half .ensures .same, c .loop-test .taken)
 
 row-pass-requires : tie.Need-row-pass-requires Inv-loop μ-loop
 row-pass-requires c κs =
@@ -77,7 +77,7 @@ same-length-2 c = c .before .loop .inv .2 ∙ c .before .before .before .before 
 returns : tie.Need-returns Inv-loop μ-loop
 returns c =
     let st = c .before in
-    let e : st .loop .i ≡ st .before .before .before .before .before .before .before .before .before .before .args .t1 .count = omega (arith, st .before .size-of-byte .ensures .same) in
+    let e : st .loop .i ≡ st .before .before .before .before .before .before .before .before .before .before .args .t1 .count = omega (arith, st .before .size-of-half .ensures .same) in
     λ A S held. last-pass _ A _ e held (st .before .before .before .before .few-enough .ensures) (st .loop .inv .3 A S held)
 
 pub deepen-spec : {M : Type 1} → statement M

@@ -19,7 +19,7 @@ abbrev μ-loop : tie.MeasureT-loop
 μ-loop h map₀ n periods deadlines s₀ map s = h - s
 
 columns-requires : tie.Need-columns-requires Inv-loop μ-loop
-columns-requires c κs = omega (arith, c .before .before .before .before .pre .0 .count-high, c .before .before .size-of-byte .ensures .same)
+columns-requires c κs = omega (arith, c .before .before .before .before .pre .0 .count-high, c .before .before .size-of-half .ensures .same)
 
 loop-holds : tie.Need-loop-holds Inv-loop μ-loop
 loop-holds c = (omega arith, over-none _ _ _)
@@ -27,7 +27,7 @@ loop-holds c = (omega arith, over-none _ _ _)
 first-word-requires : tie.Need-first-word-requires Inv-loop μ-loop
 first-word-requires c κs =
     let f = c .before .before .before .before .before .before .before .before .before .before .pre .0 in
-    let e = c .before .before .before .before .before .before .before .before .size-of-byte .ensures .same in
+    let e = c .before .before .before .before .before .before .before .before .size-of-half .ensures .same in
     let q = c .before .before .before .before .before .columns .ensures in
     (omega (arith, f .count-high), periods-some _ e (q .0) (q .1) f)
 
@@ -49,7 +49,7 @@ returns c =
     let q = c .before .before .columns .ensures in
     let a = c .before .before .before .before .before .before .before .args in
     let e : c .before .loop .s ≡ a .h = omega arith in
-    over-ext (rw e at (c .before .loop .inv .1)) (λ s l m. windows-are (a .t) (c .before .before .before .before .before .size-of-byte .ensures .same) (q .0) (q .1) s)
+    over-ext (rw e at (c .before .loop .inv .1)) (λ s l m. windows-are (a .t) (c .before .before .before .before .before .size-of-half .ensures .same) (q .0) (q .1) s)
 
 pub first-map-spec : {M : Type 1} → statement M
 first-map-spec =

@@ -26,7 +26,7 @@ whole t n s e a = so-far-all (rowAt t) (besideOf t) (t .count) s (subst (λ (k :
 returns : tie.Need-returns Inv-loop μ-loop
 returns c =
     let st = c .before .before .before in
-    let size = st .before .size-of-byte in
+    let size = st .before .size-of-half in
     c .finish .ensures
     ∙ whole (st .before .before .args .t1) (size .result) _ (size .ensures .same)
     (record {
@@ -51,7 +51,7 @@ returns-2 : tie.Need-returns-2 Inv-loop μ-loop
 returns-2 c =
     let st = c .before .before in
     let t = st .before .before .before .before .before .args .t1 in
-    let size = st .before .before .before .before .size-of-byte in
+    let size = st .before .before .before .before .size-of-half in
     let e : st .loop .i ≡ size .result = omega arith in
     c .finish2 .ensures ∙ whole t (st .loop .i) _ (e ∙ size .ensures .same) (st .loop .inv .1)
 

@@ -14,19 +14,19 @@ use Rattle.table.proofs.finish.Tie as tie
 
 -- the tests of m, x and the count that passed
 m-fine : (c : tie.Else1) → inside 1 (c .before .before .before .args .s .beside .processors) mostProcessors ≡ true
-m-fine c = range-passed _ _ _ (c .before .within .ensures) (c .before .before .size-of-byte .ensures .same) (omega arith) (omega arith) (c .if1 .left)
+m-fine c = range-passed _ _ _ (c .before .within .ensures) (c .before .before .size-of-half .ensures .same) (omega arith) (omega arith) (c .if1 .left)
 
 x-fine : (c : tie.Else2) → inside 1 (c .before .before .before .before .before .before .args .s .beside .depth) mostDepths ≡ true
-x-fine c = range-passed _ _ _ (c .before .within2 .ensures) (c .before .before .size-of-byte2 .ensures .same) (omega arith) (omega arith) (c .if2 .left)
+x-fine c = range-passed _ _ _ (c .before .within2 .ensures) (c .before .before .size-of-half2 .ensures .same) (omega arith) (omega arith) (c .if2 .left)
 
 count-fine : (c : tie.Else3) → inside 1 (c .before .before .before .before .before .before .before .before .before .args .s .count) mostRows ≡ true
-count-fine c = range-passed _ _ _ (c .before .within3 .ensures) (c .before .before .size-of-byte3 .ensures .same) (omega arith) (omega arith) (c .if3 .left)
+count-fine c = range-passed _ _ _ (c .before .within3 .ensures) (c .before .before .size-of-byte .ensures .same) (omega arith) (omega arith) (c .if3 .left)
 
 returns : tie.Need-returns
 unfolding finishOf
 returns c =
     let st = c .before .before in
-    c .refused .ensures ∙ range-m _ _ _ (range-failed _ _ _ (st .within .ensures) (st .before .size-of-byte .ensures .same) (omega arith) (omega arith) (c .before .if1 .taken))
+    c .refused .ensures ∙ range-m _ _ _ (range-failed _ _ _ (st .within .ensures) (st .before .size-of-half .ensures .same) (omega arith) (omega arith) (c .before .if1 .taken))
 
 returns-2 : tie.Need-returns-2
 unfolding finishOf
@@ -34,7 +34,7 @@ returns-2 c =
     let st = c .before .before in
     c .refused2 .ensures
     ∙ range-x _ _ _ (m-fine (st .before .before))
-    (range-failed _ _ _ (st .within2 .ensures) (st .before .size-of-byte2 .ensures .same) (omega arith) (omega arith) (c .before .if2 .taken))
+    (range-failed _ _ _ (st .within2 .ensures) (st .before .size-of-half2 .ensures .same) (omega arith) (omega arith) (c .before .if2 .taken))
 
 returns-3 : tie.Need-returns-3
 unfolding finishOf
@@ -42,7 +42,7 @@ returns-3 c =
     let st = c .before .before in
     c .refused3 .ensures
     ∙ range-count _ _ _ (m-fine (st .before .before .before .before .before)) (x-fine (st .before .before))
-    (range-failed _ _ _ (st .within3 .ensures) (st .before .size-of-byte3 .ensures .same) (omega arith) (omega arith) (c .before .if3 .taken))
+    (range-failed _ _ _ (st .within3 .ensures) (st .before .size-of-byte .ensures .same) (omega arith) (omega arith) (c .before .if3 .taken))
 
 -- the three ranges are kept: what the rows come to is the answer
 each : (c : tie.Else3) → let s = c .before .before .before .before .before .before .before .before .before .args .s in seenEach s ≡ finishOf s

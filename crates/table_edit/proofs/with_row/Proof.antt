@@ -9,7 +9,7 @@ returns : tie.Need-returns
 returns c =
     let start = c .before .before .before .before .before in
     with-row (start .args .t) (simp length-map at (start .good .0 .1 .1 .1 .1 .1 .0 .1 .0 .1)) (start .args .row) _ _ _ (start .pre)
-    (c .before .before .before .size-of-byte .ensures .same) (c .before .before .no-rows .ensures) (c .before .copied .ensures)
+    (c .before .before .before .size-of-half .ensures .same) (c .before .before .no-rows .ensures) (c .before .copied .ensures)
 
 pub with-row-spec : {M : Type 1} → statement M
 with-row-spec =

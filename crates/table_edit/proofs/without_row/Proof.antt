@@ -10,7 +10,7 @@ returns c =
     let start = c .before .before .before .before .before .before .before in
     without-row (start .args .t) (simp length-map at (start .good .0 .1 .1 .1 .1 .1 .0 .1 .0 .1)) (start .args .index) _ _ _ _ _ (start .pre .0)
     (start .pre .1)
-    (c .before .before .before .before .size-of-byte2 .ensures .same) (c .before .before .before .before .before .size-of-byte .ensures .same)
+    (c .before .before .before .before .size-of-word .ensures .same) (c .before .before .before .before .before .size-of-half .ensures .same)
     (c .before .before .before .no-rows .ensures) (c .before .before .copied .ensures) (c .before .copied2 .ensures)
 
 pub without-row-spec : {M : Type 1} → statement M

@@ -13,7 +13,7 @@ fn result(given: &Table, rows: &[Row]) -> Tabled {
     if rows.len() > 32 {
         return give_back(given, refuse(3, 0));
     }
-    let mut table = Table { m: given.m, x: given.x, count: rows.len() as u8, ..Table::default() };
+    let mut table = Table { m: given.m, x: given.x, count: rows.len() as u16, ..Table::default() };
     table.rows[..rows.len()].copy_from_slice(rows);
     match frame_of(&table) {
         Ok(_) => Tabled { refusal: Refusal::default(), table },
@@ -32,11 +32,11 @@ pub fn add(table: &Table, row: Row) -> Tabled {
 }
 
 /// "Removing takes the row at an index and moves later rows up by one."
-pub fn remove(table: &Table, index: u8) -> Tabled {
+pub fn remove(table: &Table, index: u32) -> Tabled {
     if let Err(refusal) = frame_of(table) {
         return give_back(table, refusal);
     }
-    if index >= table.count {
+    if index >= table.count as u32 {
         return give_back(table, refuse(18, 0));
     }
     let mut rows = table.counted().to_vec();

@@ -58,7 +58,7 @@ fn entry(file: &[u8], i: usize) -> Entry {
 
 /// The table of a body that has the length of its count, at most 32.
 fn table_of(body: &[u8]) -> Table {
-    let mut table = Table { m: body[0], x: body[1], count: body[2], ..Table::default() };
+    let mut table = Table { m: body[0] as u16, x: body[1] as u16, count: body[2] as u16, ..Table::default() };
     let rows = table.rows.iter_mut().take(body[2] as usize);
     for (i, row) in rows.enumerate() {
         let at = 4 + 6 * i;

@@ -23,7 +23,8 @@ pub fn find(file: &[u8], number: u16) -> Tabled {
 
 /// "A table body: m, x, the row count and a zero byte, then T, C, D of each row, 2 bytes each."
 pub fn body_of(table: &Table) -> Vec<u8> {
-    let mut body = vec![table.m, table.x, table.count, 0];
+    let byte = |number: u16| u8::try_from(number).expect("a good table was given");
+    let mut body = vec![byte(table.m), byte(table.x), byte(table.count), 0];
     for row in table.counted() {
         for number in [row.period, row.execution, row.deadline] {
             body.extend([(number % 256) as u8, (number / 256) as u8]);

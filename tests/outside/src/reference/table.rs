@@ -32,7 +32,7 @@ pub fn frame_of(table: &Table) -> Result<u32, Refusal> {
 }
 
 /// The frame of a lent list of rows with m and x beside it, or its first refusal.
-pub fn frame_of_list(m: u8, x: u8, rows: &[Row]) -> Result<u32, Refusal> {
+pub fn frame_of_list(m: u16, x: u16, rows: &[Row]) -> Result<u32, Refusal> {
     if m < 1 || m > 16 {
         return Err(refuse(1, 0));
     }
@@ -75,6 +75,6 @@ pub fn check(table: &Table) -> Checked {
     answer(frame_of(table))
 }
 
-pub fn check_list(m: u8, x: u8, rows: &[Row]) -> Checked {
+pub fn check_list(m: u16, x: u16, rows: &[Row]) -> Checked {
     answer(frame_of_list(m, x, rows))
 }

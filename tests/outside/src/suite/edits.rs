@@ -2,7 +2,7 @@
 
 use crate::answers::{Given, Row};
 use crate::compare;
-use crate::draw::{any, good, Size};
+use crate::draw::{any, good, index, Size};
 use crate::run::{Outcome, Run};
 
 /// A row from another table, so that it is often a good one; or any numbers.
@@ -16,9 +16,8 @@ fn some_row(run: &mut Run) -> Row {
 
 /// Anything past the count, which must come back only from a refusal.
 fn with_rest(run: &mut Run, mut given: Given) -> Given {
-    for number in &mut given.numbers[3 * given.count as usize..] {
-        *number = run.random.next() as u16;
-    }
+    let used = 3 + 3 * given.0[2] as usize;
+    given.0[used..].iter_mut().for_each(|number| *number = run.random.next() as u16);
     given
 }
 
@@ -29,13 +28,14 @@ pub fn random(run: &mut Run) -> Outcome {
         let row = some_row(run);
         let added = compare::add(run, &given, row)?;
         run.tally(if added.refusal.no == 0 { "added" } else { "not added" });
-        for index in [0, table.count / 2, table.count - 1, table.count, run.random.next() as u8] {
+        let count = table.count as u32;
+        for index in [0, count / 2, count - 1, count, index(&mut run.random)] {
             let removed = compare::remove(run, &given, index)?;
             run.tally(if removed.refusal.no == 0 { "removed" } else { "not removed" });
         }
         let bad = any(&mut run.random);
         compare::add(run, &bad, row)?;
-        let index = run.random.below(40) as u8;
+        let index = index(&mut run.random);
         compare::remove(run, &bad, index)?;
     }
     Ok(())

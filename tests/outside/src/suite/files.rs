@@ -13,7 +13,7 @@ pub fn everything(run: &mut Run, file: &[u8]) -> Outcome {
     compare::find(run, file, 7)?;
     compare::put(run, file, 7, &given, file.len() + 30)?;
     compare::put(run, file, 8, &given, file.len() + 27)?;
-    let bad = Given { m: 17, ..given };
+    let bad = Given::from_table(&Table { m: 17, ..given.table() });
     compare::put(run, file, 7, &bad, 0)?;
     Ok(())
 }

@@ -16,13 +16,13 @@ pub struct Verdict {
 type Rows<'a> = &'a [(u16, u16, u16)];
 
 /// (t, work, supply) and the frame; t 0 is undecided.
-fn verdict(name: &'static str, m: u8, x: u8, rows: Rows, answer: (u32, u32, u32), frame: u32) -> Verdict {
+fn verdict(name: &'static str, m: u16, x: u16, rows: Rows, answer: (u32, u32, u32), frame: u32) -> Verdict {
     let (t, work, supply) = answer;
     let answer = Judged { refusal: Refusal::default(), t, work, supply, frame };
     Verdict { name, table: Table::of(m, x, rows), answer, lists: None }
 }
 
-fn refused(name: &'static str, m: u8, x: u8, rows: Rows, no: u32, row: u32) -> Verdict {
+fn refused(name: &'static str, m: u16, x: u16, rows: Rows, no: u32, row: u32) -> Verdict {
     let answer = Judged { refusal: Refusal { no, entry: 0, row }, ..Judged::default() };
     Verdict { name, table: Table::of(m, x, rows), answer, lists: None }
 }
@@ -75,6 +75,10 @@ fn easily_misread() -> Vec<Verdict> {
         refused("no rows", 1, 1, &[], 3, 0),
         refused("33 rows, m 0", 0, 1, &[(1, 1, 1); 33], 1, 0),
         refused("33 rows", 1, 1, &[(0, 0, 0); 33], 3, 0),
+        // Numbers that would be good ones in a byte.
+        refused("m 259", 259, 1, &[(1, 1, 1)], 1, 0),
+        refused("x 257", 1, 257, &[(1, 1, 1)], 2, 0),
+        refused("257 rows", 1, 1, &[(1, 1, 1); 257], 3, 0),
         // Neither work nor supply fits 16 bits: 32 rows of 4,096 due at once, 16 processors all along.
         verdict("the greatest work and supply", 16, 1, &[(4096, 4096, 4096); 32], (4096, 131_072, 65_536), 4096),
         verdict("supply that is just enough", 16, 1, &[(4096, 2048, 4096); 32], UNDECIDED, 4096),
@@ -122,32 +126,54 @@ pub fn tables(run: &mut Run) -> Outcome {
     edits(run)
 }
 
-/// What add and remove give: the refusal's number and row, and the count of the table that comes back.
+/// What add and remove give: the refusal's number and row, and the whole table that comes back. After a refusal it is exactly
+/// the one that was lent, with what stands past its count.
 fn edits(run: &mut Run) -> Outcome {
-    let full = Given::from_table(&Table::of(1, 1, &[(1, 1, 1); 32]));
-    let one = Given::from_table(&Table::of(1, 1, &[(4, 1, 2)]));
-    let none = Given::from_table(&Table::of(1, 1, &[]));
-    let long = Given::from_table(&Table::of(1, 1, &[(4096, 1, 1)]));
+    let full = Table::of(1, 1, &[(1, 1, 1); 32]);
+    let one = Table::of(1, 1, &[(4, 1, 2)]);
+    let none = Table::of(1, 1, &[]);
+    let long = Table::of(1, 1, &[(4096, 1, 1)]);
+    let wide = Table { rows: [Row { period: 1, execution: 2, deadline: 3 }; 32], m: 259, x: 1, count: 1 };
     let (good, bad) = (Row { period: 3, execution: 1, deadline: 2 }, Row::default());
-    for (given, row, no, at, count) in [
-        (&none, good, 3, 0, 0),
-        (&full, good, 3, 0, 32),
-        (&full, bad, 3, 0, 32),
-        (&one, bad, 4, 1, 1),
-        (&one, good, 0, 0, 2),
-        (&long, good, 7, 1, 1),
+    for (table, row, no, at, result) in [
+        (none, good, 3, 0, none),
+        (full, good, 3, 0, full),
+        (full, bad, 3, 0, full),
+        (one, bad, 4, 1, one),
+        (one, good, 0, 0, Table::of(1, 1, &[(4, 1, 2), (3, 1, 2)])),
+        (long, good, 7, 1, long),
+        (wide, good, 1, 0, wide),
+        (Table { m: 1, x: 257, ..wide }, good, 2, 0, Table { m: 1, x: 257, ..wide }),
+        (Table { m: 1, count: 257, ..wide }, good, 3, 0, Table { m: 1, count: 257, ..wide }),
     ] {
-        let got = run.subject.add(given, row);
-        let input = || format!("add of {row:?} to {given:?}");
-        run.same(input, (no, at, count), (got.refusal.no, got.refusal.row, got.table.count))?;
+        let got = run.subject.add(&Given::from_table(&table), row);
+        let input = || format!("add of {row:?} to {table:?}");
+        run.same(input, (no, at, result), (got.refusal.no, got.refusal.row, got.table))?;
     }
-    for (given, index, no, count) in
-        [(&none, 0, 3, 0), (&none, 1, 3, 0), (&one, 0, 3, 1), (&one, 1, 18, 1), (&full, 32, 18, 32), (&full, 31, 0, 31)]
-    {
-        let got = run.subject.remove(given, index);
-        let input = || format!("remove of {index} from {given:?}");
-        run.same(input, (no, 0, count), (got.refusal.no, got.refusal.row, got.table.count))?;
+    let mut less = Table::of(1, 1, &[(1, 1, 1); 31]);
+    for (table, index, no, result) in [
+        (none, 0, 3, none),
+        (none, 1, 3, none),
+        (one, 0, 3, one),
+        (one, 1, 18, one),
+        (full, 32, 18, full),
+        (full, 256, 18, full),
+        (full, 300, 18, full),
+        (full, 65_536, 18, full),
+        (full, u32::MAX, 18, full),
+        (full, 31, 0, less),
+        (wide, 0, 1, wide),
+        (Table { m: 1, x: 257, ..wide }, 0, 2, Table { m: 1, x: 257, ..wide }),
+        (Table { m: 1, count: 257, ..wide }, 300, 3, Table { m: 1, count: 257, ..wide }),
+    ] {
+        let got = run.subject.remove(&Given::from_table(&table), index);
+        let input = || format!("remove of {index} from {table:?}");
+        run.same(input, (no, 0, result), (got.refusal.no, got.refusal.row, got.table))?;
     }
+    // What stands past the count goes where nothing is refused.
+    less.rows[31] = Row { period: 9, execution: 9, deadline: 9 };
+    let got = run.subject.add(&Given::from_table(&less), full.rows[0]);
+    run.same(|| format!("add to {less:?}"), (0, full), (got.refusal.no, got.table))?;
     Ok(())
 }
 
@@ -198,5 +224,14 @@ pub fn files(run: &mut Run) -> Outcome {
     let got = run.subject.put(&WORKED, 7, &Given::from_table(&table), &mut out);
     run.same(|| "put back into the worked file".into(), (0, 38), (got.refusal.no, got.length))?;
     run.same(|| "the worked file put back".into(), &WORKED[..], &out[..38])?;
-    compare::shift_text(run, &WORKED)
+    // "0 is a number like any other"
+    let mut zero = WORKED;
+    zero[6] = 0;
+    let got = run.subject.find(&zero, 0);
+    run.same(|| "table 0 of the worked file with that number".into(), (0, table), (got.refusal.no, got.table))?;
+    // Numbers of tables have 16 bits.
+    let got = run.subject.find(&WORKED, 7 + 256);
+    run.same(|| "table 263 of the worked file".into(), (17, Table::default()), (got.refusal.no, got.table))?;
+    let written = compare::put(run, &WORKED, 7 + 256, &Given::from_table(&table), 72)?;
+    run.same(|| "table 263 put into the worked file".into(), 72, written.length)
 }

@@ -18,8 +18,8 @@ fn all_rows(longest: u16) -> Vec<Row> {
     rows
 }
 
-fn one(run: &mut Run, m: u8, rows: &[Row]) -> Outcome {
-    let mut table = Table { m, x: 1, count: rows.len() as u8, ..Table::default() };
+fn one(run: &mut Run, m: u16, rows: &[Row]) -> Outcome {
+    let mut table = Table { m, x: 1, count: rows.len() as u16, ..Table::default() };
     table.rows[..rows.len()].copy_from_slice(rows);
     let ladder = compare::ladder(run, &Given::from_table(&table), (60, 60))?;
     against_search(run, &table, &ladder)?;

@@ -16,11 +16,27 @@ pub const TURNS: &[&str] = &[
     "remove leaves a last row behind",
     "remove keeps what is past the count",
     "a refused remove gives zeros",
+    "a refused add gives m in a byte",
+    "a refused remove gives m in a byte",
+    "a refused add gives x in a byte",
+    "a refused remove gives the count in a byte",
+    "a refused add gives zeros past the count",
+    "a refused remove gives zeros past the count",
+    "an index in a byte",
+    "an index in 16 bits",
 ];
 
 fn refused(w: &Wrong, edit: &str, table: &Table, refusal: Refusal) -> Tabled {
-    let zeros = w.0.strip_prefix("a refused ") == Some(&format!("{edit} gives zeros"));
-    Tabled { refusal, table: if zeros { Table::default() } else { *table } }
+    let mut given = *table;
+    match w.0.strip_prefix("a refused ").and_then(|turn| turn.strip_prefix(edit)) {
+        Some(" gives zeros") => given = Table::default(),
+        Some(" gives m in a byte") => given.m %= 256,
+        Some(" gives x in a byte") => given.x %= 256,
+        Some(" gives the count in a byte") => given.count %= 256,
+        Some(" gives zeros past the count") => given.rows[32.min(table.count as usize)..].fill(Row::default()),
+        _ => {}
+    }
+    Tabled { refusal, table: given }
 }
 
 /// The table as it came, with or without what is past its count.
@@ -55,10 +71,15 @@ pub fn add(w: &Wrong, table: &Table, row: Row) -> Tabled {
     }
 }
 
-pub fn remove(w: &Wrong, table: &Table, index: u8) -> Tabled {
-    let count = table.count + w.turn("remove at the count") as u8 * (table.count < 32) as u8;
+pub fn remove(w: &Wrong, table: &Table, index: u32) -> Tabled {
+    let index = match w.0 {
+        "an index in a byte" => index % 256,
+        "an index in 16 bits" => index % 65_536,
+        _ => index,
+    };
+    let count = table.count as u32 + (w.turn("remove at the count") && table.count < 32) as u32;
     let no_such_row = refuse(18, if w.turn("18 with its row") { index as usize } else { 0 });
-    if w.turn("18 before the given table") && index >= table.count {
+    if w.turn("18 before the given table") && index >= table.count as u32 {
         return refused(w, "remove", table, no_such_row);
     }
     if let Err(refusal) = frame_of(w, table) {

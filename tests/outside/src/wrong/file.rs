@@ -2,11 +2,12 @@
 
 use super::table::frame_of;
 use super::Wrong;
-use crate::answers::{Given, Refusal, Table};
+use crate::answers::{Refusal, Row, Table};
 
 pub const TURNS: &[&str] = &[
     "9 up to 65,534 bytes",
     "9 from 65,537 bytes",
+    "a file of no bytes has form 0",
     "11 before 10",
     "form by its first byte",
     "n up to 63",
@@ -95,16 +96,19 @@ pub fn kind_of(w: &Wrong, kind: u16) -> u32 {
 }
 
 pub fn table_of(body: &[u8]) -> Table {
-    let numbers = body[4..].chunks_exact(2).map(|pair| two(pair, 0)).collect();
-    let mut table = Given { m: body[0], x: body[1], count: body[2], numbers }.table();
-    if table.count <= 32 {
-        table.rows[table.count as usize..].fill(Default::default());
-    }
+    let mut table = Table { m: body[0].into(), x: body[1].into(), count: body[2].into(), ..Table::default() };
+    let rows = table.rows.iter_mut().take(table.count.into());
+    rows.zip(body[4..].chunks_exact(6)).for_each(|(row, bytes)| {
+        *row = Row { period: two(bytes, 0), execution: two(bytes, 2), deadline: two(bytes, 4) };
+    });
     table
 }
 
 fn check_head(w: &Wrong, file: &[u8]) -> Result<usize, u32> {
     let longest = if w.turn("9 up to 65,534 bytes") { 65_534 } else { 65_535 + w.turn("9 from 65,537 bytes") as usize };
+    if file.is_empty() && w.turn("a file of no bytes has form 0") {
+        return Err(10);
+    }
     if file.len() < 4 || file.len() > longest {
         return Err(9);
     }

@@ -13,12 +13,21 @@ pub const TURNS: &[&str] = &[
     "17 with its entry",
     "the new table before the file",
     "the new table's refusal with an entry",
+    "19 before the file",
     "17 before the new table",
+    "11 before the new table",
+    "9 before the new table",
+    "19 before the new table",
     "11 before 17",
-    "9 before 11",
-    "19 before 9",
+    "9 before 17",
     "19 before 17",
+    "9 before 11",
+    "19 before 11",
+    "19 before 9",
     "19 at exactly the length",
+    "put into no output gives the length",
+    "find by a number's first byte",
+    "put by a number's first byte",
     "put over a note",
     "put always adds",
     "put adds at the front",
@@ -37,7 +46,8 @@ pub const TURNS: &[&str] = &[
 fn found(w: &Wrong, file: &[u8], number: u16) -> Result<Table, Refusal> {
     let entries = entries_of(w, file)?;
     let place = entries.iter().position(|entry| {
-        let wanted = entry.number == number || w.turn("find gives the first table");
+        let close = w.turn("find by a number's first byte") && entry.number % 256 == number % 256;
+        let wanted = entry.number == number || close || w.turn("find gives the first table");
         let table = kind_of(w, entry.kind) == 1 || w.turn("find gives a note") && entry.length > 3;
         wanted && table && !(w.turn("find leaves out number 0") && number == 0)
     });
@@ -54,15 +64,16 @@ pub fn find(w: &Wrong, file: &[u8], number: u16) -> Tabled {
     match found(w, file, number) {
         Ok(table) => Tabled { refusal: Refusal::default(), table },
         Err(refusal) => {
-            let m = w.turn("a refused find gives m") as u8;
+            let m = w.turn("a refused find gives m") as u16;
             Tabled { refusal, table: Table { m, ..Table::default() } }
         }
     }
 }
 
 fn new_body(w: &Wrong, table: &Table) -> Vec<u8> {
-    let rows = if w.turn("all 32 rows written") { &table.rows[..] } else { table.counted() };
-    let mut body = vec![table.m, table.x, table.count, 0];
+    let count = if w.turn("all 32 rows written") { 32 } else { 32.min(table.count as usize) };
+    let rows = &table.rows[..count];
+    let mut body = vec![table.m as u8, table.x as u8, table.count as u8, 0];
     for row in rows {
         for number in [row.period, row.execution, row.deadline] {
             body.extend(number.to_le_bytes());
@@ -105,50 +116,56 @@ fn write(w: &Wrong, list: &[(Entry, Vec<u8>)]) -> Vec<u8> {
     file
 }
 
-/// The new file, or the number of the first refusal among 17, 11, 9 and 19 in the order of the variant.
-fn rest(w: &Wrong, file: &[u8], old: &[Entry], number: u16, table: &Table, room: usize) -> Result<Vec<u8>, u32> {
-    let note = old.iter().any(|entry| entry.number == number && kind_of(w, entry.kind) == 2);
-    let list = new_entries(w, file, old, number, table);
-    let new = write(w, &list);
-    let faults = [
-        (17, note && !w.turn("put over a note")),
-        (
-            11,
-            list.len() > 64 - w.turn("a 64th entry refused") as usize
-                || w.turn("11 before 17") && note && old.len() == 64,
-        ),
-        (9, new.len() > 65_535 - w.turn("a grown file of 65,535 refused") as usize),
-        (19, new.len() + w.turn("19 at exactly the length") as usize > room),
-    ];
-    let order = match w.0 {
-        "11 before 17" => [1, 0, 2, 3],
-        "9 before 11" => [0, 2, 1, 3],
-        "19 before 9" => [0, 1, 3, 2],
-        "19 before 17" => [3, 0, 1, 2],
-        _ => [0, 1, 2, 3],
-    };
-    match order.iter().find(|&&k| faults[k].1) {
-        Some(&k) => Err(faults[k].0),
-        None => Ok(new),
+/// The order in which the refusals of put are looked at: the new table, 17, 11, 9, 19.
+fn order(w: &Wrong) -> [usize; 5] {
+    match w.0 {
+        "17 before the new table" => [1, 0, 2, 3, 4],
+        "11 before the new table" => [2, 0, 1, 3, 4],
+        "9 before the new table" => [3, 0, 1, 2, 4],
+        "19 before the new table" => [4, 0, 1, 2, 3],
+        "11 before 17" => [0, 2, 1, 3, 4],
+        "9 before 17" => [0, 3, 1, 2, 4],
+        "19 before 17" => [0, 4, 1, 2, 3],
+        "9 before 11" => [0, 1, 3, 2, 4],
+        "19 before 11" => [0, 1, 4, 2, 3],
+        "19 before 9" => [0, 1, 2, 4, 3],
+        _ => [0, 1, 2, 3, 4],
     }
 }
 
+/// The new file, or the first refusal in the order of the variant.
 fn new_file(w: &Wrong, file: &[u8], number: u16, table: &Table, room: usize) -> Result<Vec<u8>, Refusal> {
-    let new_table = |entry: usize| {
-        let entry = if w.turn("the new table's refusal with an entry") { entry as u32 } else { 0 };
-        frame_of(w, table).map_err(|refusal| Refusal { entry, ..refusal })
-    };
+    let refuse = |no| Some(Refusal { no, entry: 0, row: 0 });
+    if w.turn("19 before the file") && room == 0 {
+        return Err(Refusal { no: 19, entry: 0, row: 0 });
+    }
     if w.turn("the new table before the file") {
-        new_table(0)?;
+        frame_of(w, table)?;
     }
     let old = entries_of(w, file)?;
-    let note = old.iter().any(|entry| entry.number == number && kind_of(w, entry.kind) == 2);
-    if w.turn("17 before the new table") && note {
-        return Err(Refusal { no: 17, entry: 0, row: 0 });
+    let low = |number: u16| if w.turn("put by a number's first byte") { number % 256 } else { number };
+    let place = old.iter().position(|entry| low(entry.number) == low(number));
+    let number = place.map_or(number, |i| old[i].number);
+    let note = place.is_some_and(|i| kind_of(w, old[i].kind) == 2);
+    let list = new_entries(w, file, &old, number, table);
+    let new = write(w, &list);
+    let too_many =
+        list.len() > 64 - w.turn("a 64th entry refused") as usize || w.turn("11 before 17") && note && old.len() == 64;
+    let short = new.len() + w.turn("19 at exactly the length") as usize > room;
+    let faults = [
+        frame_of(w, table).err().map(|refusal| {
+            let entry = place.unwrap_or(old.len()) as u32;
+            Refusal { entry: if w.turn("the new table's refusal with an entry") { entry } else { 0 }, ..refusal }
+        }),
+        refuse(17).filter(|_| note && !w.turn("put over a note")),
+        refuse(11).filter(|_| too_many),
+        refuse(9).filter(|_| new.len() > 65_535 - w.turn("a grown file of 65,535 refused") as usize),
+        refuse(19).filter(|_| short && !(room == 0 && w.turn("put into no output gives the length"))),
+    ];
+    match order(w).iter().find_map(|&k| faults[k]) {
+        Some(refusal) => Err(refusal),
+        None => Ok(new),
     }
-    let place = old.iter().position(|entry| entry.number == number).unwrap_or(old.len());
-    new_table(place)?;
-    rest(w, file, &old, number, table, room).map_err(|no| Refusal { no, entry: 0, row: 0 })
 }
 
 pub fn put(w: &Wrong, file: &[u8], number: u16, table: &Table, out: &mut [u8]) -> Written {
@@ -157,7 +174,7 @@ pub fn put(w: &Wrong, file: &[u8], number: u16, table: &Table, out: &mut [u8]) -
             if w.turn("bytes past the length cleared") {
                 out.fill(0);
             }
-            if !w.turn("put that touches nothing") {
+            if !w.turn("put that touches nothing") && !out.is_empty() {
                 out[..new.len()].copy_from_slice(&new);
             }
             Written { refusal: Refusal::default(), length: new.len() as u32 }

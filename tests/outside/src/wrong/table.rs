@@ -1,7 +1,7 @@
 //! The check of a table, with its wrong turns.
 
 use super::Wrong;
-use crate::answers::{Given, Refusal, Row, Table};
+use crate::answers::{Refusal, Row, Table};
 
 pub const TURNS: &[&str] = &[
     "m up to 15",
@@ -27,6 +27,12 @@ pub const TURNS: &[&str] = &[
     "a list's count rolls over at 256",
     "a list from its second row on",
     "a list's depth is its m",
+    "a list's count rolls over at 65,536",
+    "a list's m in a byte",
+    "a list's x in a byte",
+    "m in a byte",
+    "x in a byte",
+    "the count in a byte",
 ];
 
 pub fn refuse(no: u32, row: usize) -> Refusal {
@@ -69,8 +75,8 @@ fn check_row(w: &Wrong, i: usize, row: &Row) -> Result<(), Refusal> {
 }
 
 fn check_head(w: &Wrong, table: &Table) -> Result<(), Refusal> {
-    let most_m = if w.turn("m up to 15") { 15 } else { 16 + w.turn("m up to 17") as u8 };
-    let most_x = if w.turn("x up to 7") { 7 } else { 8 + w.turn("x up to 9") as u8 };
+    let most_m = if w.turn("m up to 15") { 15 } else { 16 + w.turn("m up to 17") as u16 };
+    let most_x = if w.turn("x up to 7") { 7 } else { 8 + w.turn("x up to 9") as u16 };
     let most_rows = if w.turn("count up to 31") { 31 } else { 32 };
     let bad_count = table.count == 0 || table.count > most_rows;
     if table.m == 0 || table.m > most_m {
@@ -115,14 +121,19 @@ pub fn frame_of(w: &Wrong, table: &Table) -> Result<u32, Refusal> {
 }
 
 /// The frame of a lent list of rows, by way of a table of as many.
-pub fn frame_of_list(w: &Wrong, m: u8, x: u8, list: &[Row]) -> Result<u32, Refusal> {
+pub fn frame_of_list(w: &Wrong, m: u16, x: u16, list: &[Row]) -> Result<u32, Refusal> {
     let list = if w.turn("a list from its second row on") { list.get(1..).unwrap_or(list) } else { list };
     let rows = list.len();
-    let numbers: Vec<u16> = list.iter().flat_map(|row| [row.period, row.execution, row.deadline]).collect();
     let most = if w.turn("a list of 33 rows by its first 32") { 32 } else { 33 };
-    let count = if w.turn("a list's count rolls over at 256") { rows as u8 } else { rows.min(most) as u8 };
-    let x = if w.turn("a list's depth is its m") { m } else { x };
-    let frame = frame_of(w, &Given { m, x, count, numbers }.table());
+    let count = match w.0 {
+        "a list's count rolls over at 256" => rows % 256,
+        "a list's count rolls over at 65,536" => rows % 65_536,
+        _ => rows.min(most),
+    };
+    let mut table = Table { m: w.narrowed("a list's m in a byte", m), count: count as u16, ..Table::default() };
+    table.x = if w.turn("a list's depth is its m") { m } else { w.narrowed("a list's x in a byte", x) };
+    table.rows.iter_mut().zip(list).for_each(|(row, listed)| *row = *listed);
+    let frame = frame_of(w, &table);
     if rows == 0 && w.turn("an empty list's frame is 1") && frame == Err(refuse(3, 0)) {
         return Ok(1);
     }

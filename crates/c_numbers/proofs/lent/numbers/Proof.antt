@@ -23,19 +23,17 @@ full c = simp length-map at (c .good .0 .1 .1 .1 .1 .1 .0 .1 .0 .1)
 
 loop-holds : tie.Need-loop-holds Inv-loop μ-loop
 loop-holds c =
-    let start = c .before .before .before in
-    let w = head-written (start .args .t1) (full start) (replicate (3 + 3 * mostRows) 0) refl in
-    (omega arith, rw (c .before .before .half-of-byte .ensures .same, c .before .half-of-byte2 .ensures .same, c .half-of-byte3 .ensures .same) w)
+    (omega arith, head-written (c .args .t1) (full c) (replicate (3 + 3 * mostRows) 0) refl)
 
 loop-again : tie.Need-loop-again Inv-loop μ-loop
 loop-again c =
-    let start = c .before .before .before .before .before .before in
+    let start = c .before .before .before in
     let l = c .before .before .loop in
     (omega arith, row-written (start .args .t1) (full start) (l .all) (l .i) (omega arith) (l .inv .1))
 
 returns : tie.Need-returns Inv-loop μ-loop
 returns c =
-    let start = c .before .before .before .before .before in
+    let start = c .before .before in
     let l = c .before .loop in
     let e : 3 + 3 * l .i ≡ 3 + 3 * mostRows = omega arith in
     table-written (start .args .t1) (full start) (l .all) (rw e at (l .inv .1))
@@ -44,8 +42,7 @@ pub numbers-spec : {M : Type 1} → statement M
 numbers-spec =
     tie.close
     (tie.spec
-    Inv-loop μ-loop (λ c κs. search needs) (λ c. search needs) (λ c κs. search needs)
-    (λ c. search needs) (λ c κs. search needs) (λ c. search needs) loop-holds (λ c. omega arith)
+    Inv-loop μ-loop (λ c. search needs) (λ c. search needs) (λ c. search needs) loop-holds (λ c. omega arith)
     (λ c. omega arith) (λ c. omega arith) (λ c. omega arith) (λ c. omega arith) (λ c. omega arith)
     (λ c. omega arith) (λ c. omega arith) (λ c. omega arith) (λ c. omega arith) (λ c. omega arith)
     (λ c. omega arith) (λ c. omega arith) (λ c. omega arith) loop-again returns)

@@ -1,5 +1,6 @@
 -- The numbers as they came, and the rows as they are read.
 use mathlib.Core.Path.{ap}
+use lib.ListN.{getD}
 use borrow.Author.Needs.{needs}
 use Rattle.table.specs.Rows.{beside, tableBy}
 use Rattle.c_numbers.specs.Lent.{lentTable}
@@ -9,8 +10,8 @@ use Rattle.c_numbers.proofs.lent.read_table.Tie as tie
 returns : tie.Need-returns
 unfolding lentTable
 returns c =
-    let a = c .before .before .before .args in
-    ap (tableBy (beside (a .m) (a .x)) (a .count)) (c .before .read-rows .ensures)
+    let l = c .before .before .before .before .before .args .l .now in
+    ap (tableBy (beside (getD l 0 0) (getD l 1 0)) (getD l 2 0)) (c .before .before .before .before .read-rows .ensures)
 
 pub read-table-spec : {M : Type 1} → statement M
 read-table-spec =
@@ -18,4 +19,7 @@ read-table-spec =
     (tie.spec
     (λ c κs. search needs)
     (λ c κs. search needs)
+    (λ c. search needs)
+    (λ c. search needs)
+    (λ c. search needs)
     returns)

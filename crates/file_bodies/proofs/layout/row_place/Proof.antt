@@ -3,8 +3,8 @@ use borrow.Author.Needs.{needs}
 use Rattle.file_bodies.proofs.layout.row_place.Statement.{statement}
 use Rattle.file_bodies.proofs.layout.row_place.Tie as tie
 
-size-of-byte-requires : tie.Need-size-of-byte-requires
-size-of-byte-requires c κs = search needs
+size-of-half-requires : tie.Need-size-of-half-requires
+size-of-half-requires c κs = search needs
 
 mul-result : tie.Need-mul-result
 mul-result c = search needs
@@ -16,4 +16,4 @@ returns : tie.Need-returns
 returns c = search needs
 
 pub row-place-spec : {M : Type 1} → statement M
-row-place-spec = tie.close (tie.spec size-of-byte-requires mul-result add-result returns)
+row-place-spec = tie.close (tie.spec size-of-half-requires mul-result add-result returns)
