@@ -1,7 +1,5 @@
 //! The outside tests: an independent reading of document 01, and the suite that holds a library to it.
 
-#![forbid(unsafe_code)]
-
 pub mod answers;
 #[cfg(feature = "library")]
 pub mod bound;

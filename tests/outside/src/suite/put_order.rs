@@ -61,8 +61,10 @@ fn bad_tables() -> [(Table, u32, u32); 8] {
     ]
 }
 
-/// Changes of the file with the refusal's number and entry.
-const BAD_FILES: [(fn(&mut Draft), u32, u32); 4] = [
+/// A change of the file with the refusal's number and entry.
+type Damage = (fn(&mut Draft), u32, u32);
+
+const BAD_FILES: [Damage; 4] = [
     (|draft| draft.form = 2, 10, 0),
     (|draft| draft.entries[2].kind = 127, 12, 2),
     (|draft| draft.entries[1].sum = Some(1), 14, 1),
