@@ -2,3 +2,4 @@
 pub mod AtHand
 pub mod Entered
 pub mod Steps
+pub mod Determined

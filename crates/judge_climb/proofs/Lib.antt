@@ -2,3 +2,4 @@
 pub mod Squares
 pub mod Same
 pub mod Climbing
+pub mod Determined
