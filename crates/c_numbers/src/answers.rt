@@ -53,7 +53,7 @@ pub fn of_check(c: Checked) -> [u32; 4]
 
 // The numbers of a check.
 #[repr(C)]
-#[derive(Drop)]
+#[derive(Clone, Copy)]
 pub struct Answer {
     pub no: u32,
     pub entry: u32,

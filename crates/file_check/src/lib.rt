@@ -10,14 +10,14 @@ use refusal::Refusal;
 use table::Table;
 
 // What a check of a file answers: its number of entries, or a refusal.
-#[derive(Drop)]
+#[derive(Clone, Copy)]
 pub enum CheckedFile {
     Entries(u8),
     Refused(Refusal),
 }
 
 // What find answers: the table, or a refusal and a table of zeros.
-#[derive(Drop)]
+#[derive(Clone, Copy)]
 pub struct Found {
     pub refusal: Refusal,
     pub table: Table,

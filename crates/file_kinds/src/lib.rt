@@ -6,7 +6,7 @@ ghost use Rattle.file_kinds.specs.Kinds.{kind_of, is_table, is_note, is_refused}
 pub const TABLE: u16 = 1;
 
 // What a kind number says of an entry.
-#[derive(Drop)]
+#[derive(Clone, Copy)]
 pub enum Kind {
     Table,
     Note,

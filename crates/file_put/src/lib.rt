@@ -12,7 +12,7 @@ use refusal::Refusal;
 use table::Table;
 
 // What put answers: the length of the file that it wrote, or a refusal and 0.
-#[derive(Drop)]
+#[derive(Clone, Copy)]
 pub struct Written {
     pub refusal: Refusal,
     pub length: u32,

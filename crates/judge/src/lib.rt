@@ -11,7 +11,7 @@ use sets::Set;
 use table::{Checked, Table};
 
 // Infeasible with the least length that fails, its work and its supply; undecided; or refused.
-#[derive(Drop)]
+#[derive(Clone, Copy)]
 pub enum Verdict {
     Infeasible {
         t: u32,

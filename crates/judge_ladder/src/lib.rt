@@ -14,7 +14,7 @@ use table::{Checked, Table};
 use table_row::limits::DEPTHS;
 
 // A refusal, none where its number is 0, and a line for each depth from 1 to 8.
-#[derive(Drop)]
+#[derive(Clone, Copy)]
 pub struct Square {
     pub refusal: Refusal,
     pub lines: [Line; DEPTHS],

@@ -15,7 +15,7 @@ use table_row::Row;
 use table_row::limits::SLOTS;
 
 // A length, the work due in it and its supply; three zeros where no length fails.
-#[derive(Drop)]
+#[derive(Clone, Copy)]
 pub struct Line {
     pub t: u32,
     pub work: u32,

@@ -1,9 +1,10 @@
 // A refusal. It is made here and nowhere else.
+#![tactic(auto)]
 ghost use Rattle.std.specs.Prelude.{◌≡◌};
 ghost use Rattle.refusal.specs.Refusal.{in_row, refuse, none as noRefusal, in_entry};
 
 // A refusal's number, and the entry and row that it names, 0 where none applies. Number 0 is no refusal.
-#[derive(Drop)]
+#[derive(Clone, Copy)]
 pub struct Refusal {
     pub no: u8,
     pub entry: u8,

@@ -1,4 +1,5 @@
 // A table of tasks and its check.
+#![tactic(auto)]
 ghost use Rattle.std.specs.Prelude.{◌≡◌};
 ghost use Rattle.table.specs.Rows.{no_rows, beside_of, no_table};
 ghost use Rattle.table.specs.Check.{numbers, refused as refusedAs, check_of, table_refusal};
@@ -11,7 +12,7 @@ use table_row::{Row, euclid};
 
 // Processors m, depth x, and room for the rows, of which the first `count` matter.
 #[repr(C)]
-#[derive(Drop)]
+#[derive(Clone, Copy)]
 pub struct Table {
     pub processors: u16,
     pub depth: u16,
@@ -21,14 +22,14 @@ pub struct Table {
 
 // What stands beside the rows: m and x.
 #[repr(C)]
-#[derive(Drop)]
+#[derive(Clone, Copy)]
 pub struct Beside {
     pub processors: u16,
     pub depth: u16,
 }
 
 // What a check of a table answers: the frame, or a refusal.
-#[derive(Drop)]
+#[derive(Clone, Copy)]
 pub enum Checked {
     Frame(u32),
     Refused(Refusal),
@@ -37,7 +38,7 @@ pub enum Checked {
 // What stands beside the rows, and what the rows seen so far come to: how many they are, one more than the most for all above it;
 // the first that is refused by itself, with its refusal, 0 where none is; and the multiple of their periods, which stops over the
 // longest frame, with the last row that it took in.
-#[derive(Drop)]
+#[derive(Clone, Copy)]
 pub struct Seen {
     pub beside: Beside,
     pub count: u8,

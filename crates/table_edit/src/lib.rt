@@ -13,7 +13,7 @@ use table_row::Row;
 use table_row::limits::ROWS;
 
 // The refusal, or number 0, and the table that comes back.
-#[derive(Drop)]
+#[derive(Clone, Copy)]
 pub struct Edited {
     pub refusal: Refusal,
     pub table: Table,

@@ -1,4 +1,5 @@
 // A row of a table and its own check; the limits, and the multiple of periods.
+#![tactic(auto)]
 ghost use Rattle.std.specs.Prelude.{◌≡◌};
 ghost use Rattle.table_row.specs.Row.{no_row, row_refusal};
 
@@ -11,7 +12,7 @@ use limits::SLOTS;
 
 // T, C and D of a task.
 #[repr(C)]
-#[derive(Drop)]
+#[derive(Clone, Copy)]
 pub struct Row {
     pub period: u16,
     pub execution: u16,

@@ -10,7 +10,7 @@ use table_row::Row;
 
 // A table of up to four rows (T, C and D of each in turn, then zeros); its frame, and its line (t, work and supply, or zeros);
 // and as many words of both lists as are told.
-#[derive(Drop)]
+#[derive(Clone, Copy)]
 pub struct Case {
     pub processors: u16,
     pub depth: u16,

@@ -5,7 +5,7 @@ use table::Table;
 use table_row::limits::SLOTS;
 
 // Of the two lists, `map` and `pins` words are lent, where 1 stands for all; and `told` words of each are told.
-#[derive(Drop)]
+#[derive(Clone, Copy)]
 pub struct Try {
     pub ladder: bool,
     pub table: Table,

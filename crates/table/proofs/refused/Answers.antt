@@ -4,15 +4,7 @@ use Rattle.refusal.specs.declared.Refusal.{Refusal}
 use Rattle.table.specs.declared.Checked.TheVariants.{Refused}
 use Rattle.table.specs.Check.{numbers}
 use borrow.Author.Rules.{rules}
-use Rattle.table.proofs.refused.Statement.{statement}
-use Rattle.table.proofs.refused.Tie as tie
+use Rattle.table.proofs.refused.Goals as goal
 
-returns : tie.Need-returns
+pub returns : goal.returns
 returns c = ap (λ (r : Refusal). numbers (Refused r)) c.in_row.ensures
-
-pub refused-spec : {M : Type 1} → statement M
-refused-spec =
-    tie.close
-    (tie.spec
-    (λ c κs. search rules)
-    returns)
