@@ -12,7 +12,7 @@ sum_is : (c : After-body_sum) → c.body_sum.result ≡ sum_of (body_at c.args.s
 sum_is c = c.body_sum.ensures ∙ ap sum_of c.body-b.ensures
 
 sum_fine : (c : Else-body_sum-sum_at) → sum_of (body_at c.args.s.now c.args.i) ≡ sum_at c.args.s.now c.args.i
-sum_fine c = sym ((c.body_sum.ensures ∙ ap sum_of c.body-b.ensures)) ∙ c.if-body_sum-sum_at.false ∙ c.sum_at.ensures
+sum_fine c = sym (c.body_sum.ensures ∙ ap sum_of c.body-b.ensures) ∙ c.if-body_sum-sum_at.false ∙ c.sum_at.ensures
 
 kind_is : (c : After-is_table) → c.is_table.result ≡ is_table (kind_of (kind_at c.args.s.now c.args.i))
 kind_is c = c.is_table.ensures ∙ ap is_table (c.kind_of.ensures ∙ ap kind_of c.kind_at.ensures)
