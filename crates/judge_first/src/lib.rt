@@ -1,4 +1,5 @@
 // The map of depth 1, slot by slot.
+#![tactic(auto)]
 ghost use Rattle.std.specs.Prelude.{◌≡◌, cond, ℕ, ◌%◌, ◌≤◌, ◌<◌, ltb, length, get_or};
 ghost use Rattle.basics.specs.Over.{Over};
 ghost use Rattle.model.specs.Depths.{available};
@@ -44,8 +45,8 @@ fn with_row(w: Set, i: usize, b: bool) -> Set
 
 // The rows in whose windows slot s is, of the first n.
 fn first_word(periods: &[u32; ROWS], deadlines: &[u32; ROWS], n: usize, s: u32) -> Set
-    requires n_le_most_rows { n ≤ most_rows }
-    requires by_index { (i : ℕ) → i < n → 0 < get_or periods.now i 0 }
+    requires few { n ≤ most_rows }
+    requires positive { (i : ℕ) → i < n → 0 < get_or periods.now i 0 }
     ensures { result ≡ word n (in_windows periods.now deadlines.now s) }
 {
     let mut w: Set = 0;

@@ -1,4 +1,5 @@
 // The least length at which more work is due than the slots of a map supply.
+#![tactic(auto)]
 ghost use Rattle.std.specs.Prelude.{◌≡◌, ◌⊎◌, ℕ, ◌+◌, ◌^◌, ◌≤◌, ◌<◌, min, length, get_or};
 ghost use Rattle.std.specs.Int.Count.{ones};
 ghost use Rattle.basics.specs.Over.{Over};
@@ -44,8 +45,8 @@ fn usables(map: &[Set], m: u32, h: usize, list: &mut [u32; SLOTS])
 
 // Adds a row's work to the slots in which its windows end.
 fn row_dues(list: &mut [u32; SLOTS], row: Row, h: usize)
-    requires deadline_nonzero { (0 < row.deadline) × (row.deadline ≤ row.period) × (h ≤ most_slots) × (h ≤ length list.old) }
-    requires by_index { (s : ℕ) → s < h → get_or list.old s 0 + row.execution < 2 ^ 32 }
+    requires row_fine { (0 < row.deadline) × (row.deadline ≤ row.period) × (h ≤ most_slots) × (h ≤ length list.old) }
+    requires sums_fit { (s : ℕ) → s < h → get_or list.old s 0 + row.execution < 2 ^ 32 }
     ensures { Falls (falling row) h list.old list.new }
 {
     let period = widths::size_of_half(row.period);
@@ -60,8 +61,8 @@ fn row_dues(list: &mut [u32; SLOTS], row: Row, h: usize)
 
 // Adds the work of all rows to the slots in which their windows end.
 fn dues(t: Table, n: usize, h: usize, list: &mut [u32; SLOTS])
-    requires n_value { (n ≡ t.count) × Accepted t h × (h ≤ length list.old) }
-    requires by_index { (s : ℕ) → s < h → get_or list.old s 0 ≡ 0 }
+    requires accepted { (n ≡ t.count) × Accepted t h × (h ≤ length list.old) }
+    requires zeros { (s : ℕ) → s < h → get_or list.old s 0 ≡ 0 }
     ensures { Falls (falling_in t n) h list.old list.new }
 {
     let mut i: usize = 0;

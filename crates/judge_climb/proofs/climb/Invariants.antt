@@ -1,0 +1,16 @@
+-- What the loop keeps.
+use mathlib.Core.Path.{refl}
+use Prim.Native.Nat.{◌-◌}
+use native.Mathlib.Omega.{arith}
+use borrow.Author.Rules.{rules}
+use borrow.Author.Tests.{not-true}
+use Rattle.judge_deepen.proofs.Depth.{reached_then}
+use Rattle.judge_climb.proofs.Climbing.{Climbing, climbing_first, further_room, climbing_more, climbing_stop, climbing_all}
+use Rattle.table_row.specs.Limits.{most_depths}
+use Rattle.judge_climb.proofs.climb.Given as goal
+
+abbrev pub invariant-loop-y : goal.invariant-loop-y
+invariant-loop-y l = Climbing l.t l.h l.initial.map l.initial.pins l.map l.pins l.square l.y
+
+abbrev pub decreases-loop-y : goal.decreases-loop-y
+decreases-loop-y l = most_depths - l.y

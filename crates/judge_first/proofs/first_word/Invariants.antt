@@ -1,0 +1,14 @@
+-- What the loop keeps.
+use mathlib.Core.Path.{◌≡◌, sym, ◌∙◌}
+use Prim.Native.Nat.{◌-◌, ◌≤◌, ◌<◌}
+use native.Mathlib.Omega.{arith}
+use Rattle.sets.specs.Word.{width, word}
+use Rattle.judge_first.specs.Columns.{in_windows}
+use Rattle.judge_first.proofs.Next.{word_zero, word_next}
+use Rattle.judge_first.proofs.first_word.Given as goal
+
+abbrev pub invariant-loop-i : goal.invariant-loop-i
+invariant-loop-i l = (l.i ≤ l.n) × (l.w ≡ word l.i (in_windows l.periods l.deadlines l.s))
+
+abbrev pub decreases-loop-i : goal.decreases-loop-i
+decreases-loop-i l = l.n - l.i

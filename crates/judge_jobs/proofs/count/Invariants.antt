@@ -1,0 +1,13 @@
+-- What the loop keeps.
+use mathlib.Core.Path.{◌≡◌, sym, ap₂, ◌∙◌}
+use Prim.Native.Nat.{◌+◌, ◌-◌, ◌≤◌}
+use native.Mathlib.Omega.{arith}
+use Rattle.judge_jobs.specs.First.{in_slot, tally}
+use Rattle.judge_jobs.proofs.Tally.{bit_small, tally_zero, tally_more}
+use Rattle.judge_jobs.proofs.count.Given as goal
+
+abbrev pub invariant-loop-o : goal.invariant-loop-o
+invariant-loop-o l = (l.o ≤ l.len) × (l.total ≤ l.o) × (l.total ≡ tally (in_slot l.i l.pins) l.from l.o)
+
+abbrev pub decreases-loop-o : goal.decreases-loop-o
+decreases-loop-o l = l.len - l.o

@@ -1,0 +1,13 @@
+-- What the loop keeps.
+use mathlib.Core.Path.{◌≡◌, sym}
+use Prim.Native.Nat.{◌+◌, ◌-◌, ◌≤◌, ◌<◌}
+use native.Mathlib.Omega.{arith}
+use Rattle.judge_jobs.specs.First.{in_slot, tally}
+use Rattle.judge_jobs.proofs.Tally.{bit_small, tally_zero, tally_more, tally_short}
+use Rattle.judge_jobs.proofs.reach.Given as goal
+
+abbrev pub invariant-loop-got : goal.invariant-loop-got
+invariant-loop-got l = (l.o ≤ l.len) × (l.got ≡ tally (in_slot l.i l.pins) l.from l.o) × (l.got ≤ l.c)
+
+abbrev pub decreases-loop-got : goal.decreases-loop-got
+decreases-loop-got l = l.len - l.o

@@ -1,0 +1,18 @@
+-- What the loop keeps.
+use mathlib.Core.Path.{◌≡◌, ap, ◌∙◌}
+use Prim.Native.Nat.{◌-◌, ◌≤◌}
+use native.Mathlib.Omega.{arith}
+use lib.ListN.{get_or}
+use Rattle.sets.specs.Word.{member, put}
+use Rattle.basics.specs.Over.{Over}
+use Rattle.basics.proofs.Overs.{over_none, over_more}
+use Rattle.judge_jobs.specs.First.{in_slot}
+use Rattle.judge_jobs.specs.Passes.{putting, Noticed}
+use Rattle.judge_jobs.proofs.Noticed.{noticed_none, noticed_more}
+use Rattle.judge_jobs.proofs.restrict.Given as goal
+
+abbrev pub invariant-loop-s : goal.invariant-loop-s
+invariant-loop-s l = (l.s ≤ l.to) × (l.from ≤ l.s) × Over (putting l.i (in_slot l.i l.pins) l.initial.map) l.from l.s l.initial.map l.map × Noticed l.from l.s l.initial.map l.map l.changed
+
+abbrev pub decreases-loop-s : goal.decreases-loop-s
+decreases-loop-s l = l.to - l.s

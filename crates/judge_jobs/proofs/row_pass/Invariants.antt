@@ -1,0 +1,22 @@
+-- What the loop keeps.
+use mathlib.Core.Path.{◌≡◌, ◌∙◌}
+use Prim.Native.Nat.{ℕ, ◌+◌, ◌-◌, ◌%◌, ◌≤◌}
+use native.Mathlib.Nat.{add-mod_right, zero-mod}
+use native.Mathlib.Omega.{arith}
+use Rattle.basics.proofs.Overs.{over_none}
+use Rattle.table_row.specs.declared.Row.{Row}
+use Rattle.judge_jobs.specs.Passes.{RowDone}
+use Rattle.judge_jobs.proofs.Noticed.{noticed_none}
+use Rattle.judge_jobs.proofs.Row.{release_fits, row_step}
+use Rattle.judge_jobs.proofs.row_pass.Given as goal
+
+-- the row, from its numbers as the loop has them
+abbrev pub read : ℕ → ℕ → ℕ → Row
+read period execution deadline = record { period = period; execution = execution; deadline = deadline }
+
+abbrev pub invariant-loop-from : goal.invariant-loop-from
+invariant-loop-from l =
+    (l.from ≤ l.h) × (l.from % l.period ≡ 0) × RowDone l.i (read l.period l.execution l.deadline) l.from l.initial.pins l.pins l.initial.map l.map l.changed
+
+abbrev pub decreases-loop-from : goal.decreases-loop-from
+decreases-loop-from l = l.h - l.from

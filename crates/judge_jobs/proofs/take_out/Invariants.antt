@@ -1,0 +1,16 @@
+-- What the loop keeps.
+use mathlib.Core.Path.{◌≡◌, ap, ◌∙◌}
+use mathlib.Core.Bool.{false}
+use Prim.Native.Nat.{◌-◌, ◌≤◌}
+use native.Mathlib.Omega.{arith}
+use Rattle.sets.specs.Word.{put}
+use Rattle.basics.specs.Over.{Over}
+use Rattle.basics.proofs.Overs.{over_none, over_more}
+use Rattle.judge_jobs.specs.Passes.{putting}
+use Rattle.judge_jobs.proofs.take_out.Given as goal
+
+abbrev pub invariant-loop-s : goal.invariant-loop-s
+invariant-loop-s l = (l.from ≤ l.s) × (l.s ≤ l.to) × Over (putting l.i (λ k. false) l.initial.pins) l.from l.s l.initial.pins l.pins
+
+abbrev pub decreases-loop-s : goal.decreases-loop-s
+decreases-loop-s l = l.to - l.s

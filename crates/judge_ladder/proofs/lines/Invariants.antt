@@ -1,0 +1,15 @@
+-- What the loop keeps.
+use mathlib.Core.Path.{◌≡◌, ap}
+use native.Mathlib.Omega.{arith}
+use Prim.Native.Nat.{◌-◌, ◌≤◌}
+use lib.ListN.{length}
+use Rattle.judge_climb.specs.Core.{Spelled}
+use Rattle.judge_climb.proofs.Squares.{told_more}
+use Rattle.table_row.specs.Limits.{most_depths}
+use Rattle.judge_ladder.proofs.lines.Given as goal
+
+abbrev pub invariant-loop-k : goal.invariant-loop-k
+invariant-loop-k l = (l.k ≤ most_depths) × Spelled l.k l.square l.all
+
+abbrev pub decreases-loop-k : goal.decreases-loop-k
+decreases-loop-k l = most_depths - l.k

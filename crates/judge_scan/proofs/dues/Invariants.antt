@@ -1,0 +1,13 @@
+-- What the loop keeps.
+use mathlib.Core.Path.{◌≡◌}
+use Prim.Native.Nat.{◌-◌, ◌≤◌, ◌<◌}
+use native.Mathlib.Omega.{arith}
+use Rattle.judge_scan.specs.Dues.{falling_in, Falls}
+use Rattle.judge_scan.proofs.Rows.{falls_none, falls_more, rows_low}
+use Rattle.judge_scan.proofs.dues.Given as goal
+
+abbrev pub invariant-loop-i : goal.invariant-loop-i
+invariant-loop-i l = (l.i ≤ l.n) × Falls (falling_in l.t l.i) l.h l.initial.list l.list
+
+abbrev pub decreases-loop-i : goal.decreases-loop-i
+decreases-loop-i l = l.n - l.i

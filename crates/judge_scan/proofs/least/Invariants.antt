@@ -1,0 +1,13 @@
+-- What the loop keeps.
+use mathlib.Core.Logic.{inl, inr}
+use Prim.Native.Nat.{◌-◌, ◌≤◌}
+use native.Mathlib.Omega.{arith}
+use Rattle.judge_first.proofs.Casts.{slot_word}
+use Rattle.judge_scan.proofs.Running.{Running, running_none, enough, running_more, fails_here, passes_all}
+use Rattle.judge_scan.proofs.least.Given as goal
+
+abbrev pub invariant-loop-k : goal.invariant-loop-k
+invariant-loop-k l = (l.k ≤ l.h) × Running l.dues l.usables l.supply l.work l.k
+
+abbrev pub decreases-loop-k : goal.decreases-loop-k
+decreases-loop-k l = l.h - l.k
