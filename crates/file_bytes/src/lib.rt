@@ -1,4 +1,6 @@
 // The bytes of a task file: numbers, the sum of a body, and writing. Every function answers for every place.
+#![tactic(auto)]
+
 ghost use Rattle.std.specs.Prelude.{◌≡◌, ◌+◌, ◌*◌, nat_le, slice_index};
 ghost use Rattle.file_bytes.specs.Number.{at16, bytes16};
 ghost use Rattle.file_bytes.specs.Sum.{sum_of};

@@ -1,4 +1,6 @@
 // The contents of a task file and their refusals, 9 to 13 and 16.
+#![tactic(auto)]
+
 ghost use Rattle.std.specs.Prelude.{◌≡◌, ◌≤◌, length};
 ghost use Rattle.file_entries.specs.Limits.{most_bytes};
 ghost use Rattle.file_entries.specs.Entries.{count_of, place_of};

@@ -1,4 +1,6 @@
 // What stands in the contents of a file. Every function answers for every file and every entry number.
+#![tactic(auto)]
+
 ghost use Rattle.std.specs.Prelude.{◌≡◌};
 ghost use Rattle.basics.specs.Cast.{Cast};
 ghost use Rattle.file_entries.specs.Limits.{after_entries};

@@ -1,4 +1,6 @@
 // What the kind number of an entry says.
+#![tactic(auto)]
+
 ghost use Rattle.std.specs.Prelude.{◌≡◌};
 ghost use Rattle.file_kinds.specs.Kinds.{kind_of, is_table, is_note, is_refused};
 
