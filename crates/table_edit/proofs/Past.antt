@@ -1,5 +1,5 @@
 -- "Rows past the count never matter", for adding and removing: tables that are alike get the same refusal, and where there is none the same result.
-use mathlib.Core.Path.{◌≡◌, refl, sym, ap, ap₂, ◌∙◌}
+use mathlib.Core.Path.{◌≡◌, sym, ap, ap₂, ◌∙◌}
 use mathlib.Core.Bool.{cond}
 use mathlib.Core.List.{List, [], ◌∷◌, ◌++◌}
 use mathlib.Core.Logic.{⊎_elim}
@@ -23,7 +23,6 @@ use Rattle.table.specs.Rows.{beside_of, table_of, Alike}
 use Rattle.table.specs.Check.{Numbers, check_of}
 use Rattle.table.proofs.Accepted.{accepted}
 use Rattle.table.proofs.Past.{past_the_count}
-use Rattle.table_edit.specs.declared.Edited.{Edited}
 use Rattle.table_edit.specs.Edit.{rows_of, added, removed, no_such_row, edited, add_of, remove_of}
 use Rattle.table_edit.proofs.Rows.{length_rows}
 use Rattle.table_edit.proofs.Places.{rows_at}

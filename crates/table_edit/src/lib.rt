@@ -1,4 +1,6 @@
 // Adding and removing a row of a table.
+#![tactic(auto)]
+
 ghost use Rattle.std.specs.Prelude.{◌≡◌, ◌+◌, ◌≤◌, ◌<◌, drop};
 ghost use Rattle.std.proofs.Math.Seq.{paste};
 ghost use Rattle.table_row.specs.Limits.{most_rows};

@@ -1,4 +1,6 @@
 // Text in bytes: words and decimal numbers, written at a place of a lent output. Where there is no room nothing is written.
+#![tactic(auto)]
+
 ghost use Rattle.std.specs.Prelude.{◌≡◌, ◌+◌, ◌≤◌, ◌<◌, length};
 ghost use Rattle.file_bytes.specs.Over.{over};
 ghost use Rattle.text_decimal.specs.Decimal.{digit as byte_of, decimal};
