@@ -10,7 +10,7 @@
 use crate::draw::{self, Shape};
 use crate::measure::median;
 use crate::report::{line, micro, ratio};
-use crate::tree::{check_out, is_changed, resolve, title, Failure, Programs, Tree, PLACES};
+use crate::tree::{check_out, is_changed, resolve, rooms, title, Failure, Programs, Tree, PLACES};
 use crate::wire::{Answer, Call, Request};
 use outside::answers::Given;
 use std::fs;
@@ -177,7 +177,7 @@ fn summary(times: &[[f64; 4]]) -> String {
 /// Builds the servers, and says which libraries are measured.
 fn sides(root: &Path, commit: &str) -> Result<([Programs; 4], String), Failure> {
     let commit = resolve(root, commit)?;
-    let rooms = root.join("target/against");
+    let rooms = rooms(root)?;
     let room = rooms.join(&commit[..12]);
     let folder = room.join("tree");
     let old_title = title(root, &commit);

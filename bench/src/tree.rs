@@ -1,4 +1,5 @@
-//! The tree of a commit: its work tree under target/against, its archive, and its server, which is built with its own binding.
+//! The tree of a commit: its work tree in the folder against of git's own, its archive, and its server, which is built with its own
+//! binding.
 
 use std::ffi::OsStr;
 use std::fs;
@@ -87,9 +88,16 @@ pub fn check_out(root: &Path, commit: &str, tree: &Path) -> Result<(), String> {
     output(git(root, &["worktree", "add", "--quiet", "--force", "--detach"]).arg(tree).arg(commit)).map(drop)
 }
 
-/// The crate of the library, by what crates.txt lists.
+/// Where commits are checked out and servers are built: inside git's own folder, since `rt ci` looks through every other one and
+/// refuses the sources of another tree.
+pub fn rooms(root: &Path) -> Result<PathBuf, String> {
+    output(&mut git(root, &["rev-parse", "--absolute-git-dir"])).map(|folder| Path::new(&folder).join("against"))
+}
+
+/// The crate of the library, by what crates.txt lists: its name stands first, and its kind may follow.
 pub fn library_crate(crates: &str) -> Option<&'static str> {
-    let listed = crates.lines().filter_map(|line| line.split_once(':')).map(|(name, _)| name);
+    let listed =
+        crates.lines().filter_map(|line| line.split_once(':')).filter_map(|(name, _)| name.split_whitespace().next());
     ["awelodrun", "capi"].into_iter().find(|library| listed.clone().any(|name| name == *library))
 }
 
@@ -223,6 +231,7 @@ mod tests {
         assert_eq!(library_crate("# The ground.\nbasics:\nawelodrun: basics table\n"), Some("awelodrun"));
         assert_eq!(library_crate("plain: table\ncapi: table plain\n"), Some("capi"));
         assert_eq!(library_crate("capi:\nawelodrun: capi\n"), Some("awelodrun"));
+        assert_eq!(library_crate("plain: table\nawelodrun staticlib: table plain\n"), Some("awelodrun"));
         assert_eq!(library_crate("# awelodrun comes later\ntable: capi\nmycapi: table\n"), None);
         assert_eq!(library_crate(""), None);
         let listed = fs::read_to_string(Path::new(env!("CARGO_MANIFEST_DIR")).join("../crates.txt")).unwrap();
@@ -307,18 +316,19 @@ mod tests {
         let one = room.commit("one");
         room.write("a", "2");
         let two = room.commit("two");
-        let tree = room.0.join("target/against/tree");
+        let tree = rooms(&room.0).unwrap().join("tree");
+        assert!(tree.ends_with(".git/against/tree"));
         let holds = |text: &str| fs::read_to_string(tree.join("a")).unwrap() == text;
         let made = |commit: &str| check_out(&room.0, commit, &tree).unwrap();
 
         made(&one);
         assert!(holds("1") && !is_changed(&room.0));
-        room.write("target/against/tree/target/built", "");
+        room.write(".git/against/tree/target/built", "");
         made(&one);
         assert!(tree.join("target/built").exists(), "what was built is kept");
         made(&two);
         assert!(holds("2"), "another commit");
-        room.write("target/against/tree/a", "3");
+        room.write(".git/against/tree/a", "3");
         made(&two);
         assert!(holds("2"), "a changed file");
         fs::remove_dir_all(&tree).unwrap();

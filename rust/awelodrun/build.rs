@@ -1,14 +1,18 @@
 //! Links the static library: the one in the folder that AWELODRUN_LIB_DIR names, or one that is built from this repository.
 
 use std::env;
+use std::fs;
 use std::path::{Path, PathBuf};
 use std::process::{exit, Command, Stdio};
 
 /// The name of the archive, in whatever folder it is.
 const ARCHIVE: &str = "libawelodrun.a";
 
-/// What the archive is built from, in the repository. Cargo looks through whole folders.
-const SOURCES: [&str; 4] = ["crates", "crates.txt", "tools/build", "tools/native-archive"];
+/// What the archive is built from, in the repository, beside the sources of the crates.
+const SOURCES: [&str; 3] = ["crates.txt", "tools/build", "tools/native-archive"];
+
+/// The folders of a crate that hold sources. Beside them stands out, which every check changes.
+const PARTS: [&str; 3] = ["src", "specs", "proofs"];
 
 /// Runs a command of the repository, whose messages are shown, and gives what it writes.
 fn said(command: &mut Command) -> Result<String, String> {
@@ -34,6 +38,13 @@ fn native(root: &Path) -> Result<PathBuf, String> {
     said.lines().last().map(PathBuf::from).ok_or("tools/native-archive wrote no path".into())
 }
 
+/// All that the archive is built from. Cargo looks through whole folders.
+fn sources(root: &Path) -> Vec<PathBuf> {
+    let crates = fs::read_dir(root.join("crates")).into_iter().flatten().flatten();
+    let parts = crates.flat_map(|entry| PARTS.map(|part| entry.path().join(part))).filter(|part| part.is_dir());
+    SOURCES.iter().map(|source| root.join(source)).chain(parts).collect()
+}
+
 /// Builds the archive for the machine that the crate is compiled for.
 fn built() -> Result<PathBuf, String> {
     let package = PathBuf::from(env::var_os("CARGO_MANIFEST_DIR").ok_or("cargo names no folder of the package")?);
@@ -41,7 +52,7 @@ fn built() -> Result<PathBuf, String> {
     if !root.join("tools/native-archive").is_file() {
         return Err("this crate does not stand in the repository that the archive is built from".into());
     }
-    SOURCES.iter().for_each(|source| println!("cargo:rerun-if-changed={}", root.join(source).display()));
+    sources(&root).iter().for_each(|source| println!("cargo:rerun-if-changed={}", source.display()));
     let target = env::var("CARGO_CFG_TARGET_ARCH").unwrap_or_default();
     match target.as_str() {
         "x86_64" => delivered(&root),
