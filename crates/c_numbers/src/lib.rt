@@ -1,3 +1,5 @@
 // Tables and answers in plain numbers, as other languages have them.
+#![tactic(auto)]
+
 pub mod answers;
 pub mod lent;

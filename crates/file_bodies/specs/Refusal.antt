@@ -3,7 +3,6 @@ use Rattle.std.specs.Prelude.{ℕ, List, length, ltb, eqb}
 use Rattle.basics.specs.When.{when, unless}
 use Rattle.refusal.specs.declared.Refusal.{Refusal}
 use Rattle.refusal.specs.Refusal.{refuse}
-use Rattle.table.specs.declared.Table.{Table}
 use Rattle.table.specs.Check.{table_refusal}
 use Rattle.file_bodies.specs.Layout.{body_head, body_length, count_in, zero_in}
 use Rattle.file_bodies.specs.Body.{body_table}

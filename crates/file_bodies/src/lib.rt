@@ -1,4 +1,6 @@
 // The body of a table: read, refused and written.
+#![tactic(auto)]
+
 ghost use Rattle.std.specs.Prelude.{◌≡◌, min, ◌+◌, ◌≤◌, ◌<◌, length, take, replicate};
 ghost use Rattle.table_row.specs.Limits.{most_rows};
 ghost use Rattle.table.specs.Rows.{room_by};

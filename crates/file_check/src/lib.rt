@@ -1,4 +1,6 @@
 // The check of a task file, and the table that it has under a number.
+#![tactic(auto)]
+
 ghost use Rattle.std.specs.Prelude.{◌≡◌, ◌≤◌};
 ghost use Rattle.refusal.specs.Refusal.{in_entry};
 ghost use Rattle.refusal.specs.Order.{in_turn};

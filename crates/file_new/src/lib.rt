@@ -1,4 +1,6 @@
 // The file that put makes: its entries and where each comes from, and when it is refused.
+#![tactic(auto)]
+
 ghost use Rattle.std.specs.Prelude.{◌≡◌, ◌≤◌};
 ghost use Rattle.basics.specs.Over.{Holds};
 ghost use Rattle.file_entries.specs.Limits.{most_entries};

@@ -19,7 +19,7 @@ use Rattle.table_row.specs.declared.Row.{Row}
 use Rattle.table.specs.declared.Table.{Table}
 use Rattle.table_row.specs.Row.{no_row}
 use Rattle.table.specs.Rows.{row_at, Alike}
-use Rattle.table.specs.Check.{Numbers, check_of, table_refusal}
+use Rattle.table.specs.Check.{Numbers, table_refusal}
 use Rattle.table.proofs.Accepted.{accepted}
 use Rattle.table.proofs.Past.{past_the_count}
 use Rattle.file_entries.specs.Limits.{most_entries, most_bytes}

@@ -1,4 +1,6 @@
 // A file with a table put into it.
+#![tactic(auto)]
+
 ghost use Rattle.std.specs.Prelude.{◌≤◌, length};
 ghost use Rattle.file_entries.specs.Limits.{most_entries, most_bytes};
 ghost use Rattle.file_kinds.specs.Kinds.{table_kind};

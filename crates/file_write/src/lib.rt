@@ -1,4 +1,6 @@
 // Writes a file from its sources: its first four bytes, the heads of its entries, and their bodies.
+#![tactic(auto)]
+
 ghost use Rattle.std.specs.Prelude.{◌≡◌, ◌+◌, ◌≤◌, length};
 ghost use Rattle.file_bytes.specs.Over.{over};
 ghost use Rattle.file_entries.specs.Limits.{most_entries, most_bytes, head_bytes, entry_bytes, after_entries};

@@ -5,4 +5,4 @@ use Rattle.shift.specs.declared.Input.TheVariants.{Bytes, Failed}
 
 abbrev pub count_of : Input → ℕ
 count_of (Bytes n) = n
-count_of Failed = 0
+count_of (Failed error) = 0

@@ -1,4 +1,6 @@
 // The lines of the shift check: a table's by its verdict, and that of a refused file.
+#![tactic(auto)]
+
 ghost use Rattle.text_decimal.specs.Words.{newline};
 ghost use Rattle.text_decimal.specs.Put.{Written};
 ghost use Rattle.text_lines.specs.Line.{part, longest, infeasible_line, undecided_line, refused_line};

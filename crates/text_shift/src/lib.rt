@@ -1,4 +1,6 @@
 // The text of the shift check: one line for each table of a file, or the line of its refusal.
+#![tactic(auto)]
+
 ghost use Rattle.text_shift.specs.Shift.{Shifted};
 ghost use Rattle.text_shift.specs.Steps.{Entered, Through};
 

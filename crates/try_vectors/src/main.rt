@@ -1,4 +1,6 @@
 // Runs the judge and the ladder on hand tables of the papers, and writes a line for each: the table, the answer, and words of both lists.
+#![tactic(auto)]
+
 ghost use Rattle.std.specs.Prelude.{◌≤◌};
 
 use basics::{ranges, widths};
@@ -7,6 +9,7 @@ use judge_ladder::Square;
 use judge_scan::Line;
 use refusal::Refusal;
 use sets::Set;
+use std::io;
 use table::Table;
 use table_row::Row;
 use table_row::limits::SLOTS;
@@ -16,43 +19,45 @@ mod tries;
 
 use tries::Try;
 
-fn bytes(a: u8, b: u8, c: u8) {
+fn bytes(rt: &HostRuntime, a: u8, b: u8, c: u8) -> io::Result<()> {
     text::three(
+        rt,
         widths::word_of_byte(a),
         widths::word_of_byte(b),
         widths::word_of_byte(c),
-    );
+    )
 }
 
-fn halves(a: u16, b: u16, c: u16) {
+fn halves(rt: &HostRuntime, a: u16, b: u16, c: u16) -> io::Result<()> {
     text::three(
+        rt,
         widths::word_of_half(a),
         widths::word_of_half(b),
         widths::word_of_half(c),
-    );
+    )
 }
 
-fn row(r: Row) {
-    halves(r.period, r.execution, r.deadline);
+fn row(rt: &HostRuntime, r: Row) -> io::Result<()> {
+    halves(rt, r.period, r.execution, r.deadline)
 }
 
-fn table(name: &[u8], t: Table) {
+fn table(rt: &HostRuntime, name: &[u8], t: Table) -> io::Result<()> {
     let rows = t.rows;
-    text::word(name);
-    halves(t.processors, t.depth, t.count);
-    text::word(b" rows");
-    row(rows[0]);
-    row(rows[1]);
-    row(rows[2]);
-    row(rows[3]);
+    text::word(rt, name)?;
+    halves(rt, t.processors, t.depth, t.count)?;
+    text::word(rt, b" rows")?;
+    row(rt, rows[0])?;
+    row(rt, rows[1])?;
+    row(rt, rows[2])?;
+    row(rt, rows[3])
 }
 
-fn refusal(name: &[u8], r: Refusal) {
-    text::word(name);
-    bytes(r.no, r.entry, r.row);
+fn refusal(rt: &HostRuntime, name: &[u8], r: Refusal) -> io::Result<()> {
+    text::word(rt, name)?;
+    bytes(rt, r.no, r.entry, r.row)
 }
 
-fn verdict(v: Verdict) {
+fn verdict(rt: &HostRuntime, v: Verdict) -> io::Result<()> {
     match v {
         Verdict::Infeasible {
             t,
@@ -60,45 +65,44 @@ fn verdict(v: Verdict) {
             supply,
             frame,
         } => {
-            text::word(b" INFEASIBLE");
-            text::three(t, work, supply);
-            text::number(frame);
+            text::word(rt, b" INFEASIBLE")?;
+            text::three(rt, t, work, supply)?;
+            text::number(rt, frame)
         }
         Verdict::Undecided { frame } => {
-            text::word(b" UNDECIDED");
-            text::number(frame);
+            text::word(rt, b" UNDECIDED")?;
+            text::number(rt, frame)
         }
-        Verdict::Refused(r) => refusal(b" REFUSED", r),
+        Verdict::Refused(r) => refusal(rt, b" REFUSED", r),
     }
 }
 
-fn line(l: Line) {
-    text::three(l.t, l.work, l.supply);
+fn line(rt: &HostRuntime, l: Line) -> io::Result<()> {
+    text::three(rt, l.t, l.work, l.supply)
 }
 
-fn square(s: Square) {
-    refusal(b" refusal", s.refusal);
-    text::word(b" lines");
+fn square(rt: &HostRuntime, s: Square) -> io::Result<()> {
+    refusal(rt, b" refusal", s.refusal)?;
+    text::word(rt, b" lines")?;
     let lines = s.lines;
-    line(lines[0]);
-    line(lines[1]);
-    line(lines[2]);
-    line(lines[3]);
-    line(lines[4]);
-    line(lines[5]);
-    line(lines[6]);
-    line(lines[7]);
+    line(rt, lines[0])?;
+    line(rt, lines[1])?;
+    line(rt, lines[2])?;
+    line(rt, lines[3])?;
+    line(rt, lines[4])?;
+    line(rt, lines[5])?;
+    line(rt, lines[6])?;
+    line(rt, lines[7])
 }
 
 // The table of a try, and the answer on it.
-fn answer(u: Try, map: &mut [Set], pins: &mut [Set]) {
+fn answer(rt: &HostRuntime, u: Try, map: &mut [Set], pins: &mut [Set]) -> io::Result<()> {
     if u.ladder {
-        table(b"ladder", u.table);
-        square(judge_ladder::ladder(u.table, map, pins));
-        return;
+        table(rt, b"ladder", u.table)?;
+        return square(rt, judge_ladder::ladder(u.table, map, pins));
     }
-    table(b"judge", u.table);
-    verdict(judge::judge(u.table, map, pins));
+    table(rt, b"judge", u.table)?;
+    verdict(rt, judge::judge(u.table, map, pins))
 }
 
 // How many words are lent of a list that has so many.
@@ -112,27 +116,28 @@ fn share(words: u8, all: usize) -> usize
 }
 
 // The same with as many words of both lists as the try lends.
-fn lend(u: Try, map: &mut [Set], pins: &mut [Set]) {
+fn lend(rt: &HostRuntime, u: Try, map: &mut [Set], pins: &mut [Set]) -> io::Result<()> {
     let a = share(u.map, map.len());
     let b = share(u.pins, pins.len());
-    answer(u, &mut map[..a], &mut pins[..b]);
+    answer(rt, u, &mut map[..a], &mut pins[..b])
 }
 
 // One try. Both lists hold 7 everywhere before, so that what is left alone shows.
-fn tried(u: Try) {
+fn tried(rt: &HostRuntime, u: Try) -> io::Result<()> {
     let mut map: [Set; SLOTS] = [7; SLOTS];
     let mut pins: [Set; SLOTS] = [7; SLOTS];
-    lend(u, &mut map, &mut pins);
+    lend(rt, u, &mut map, &mut pins)?;
     let n = widths::size_of_byte(u.told);
-    text::list(b" map", &map, n);
-    text::list(b" pins", &pins, n);
-    text::word(b"\n");
+    text::list(rt, b" map", &map, n)?;
+    text::list(rt, b" pins", &pins, n)?;
+    text::word(rt, b"\n")
 }
 
-fn main() {
+fn main(rt: HostRuntime) -> io::Result<()> {
     let mut i: usize = 0;
     while i < tries::COUNT {
-        tried(tries::entry(i));
+        tried(&rt, tries::entry(i))?;
         i += 1;
     }
+    Ok(())
 }

@@ -1,33 +1,33 @@
 // Words and numbers on standard output.
-use libc::STDOUT_FILENO;
+use std::io;
 
-pub fn word(w: &[u8]) {
-    io::write_all(STDOUT_FILENO, w);
+pub fn word(rt: &HostRuntime, w: &[u8]) -> io::Result<()> {
+    rt.write_all(w)
 }
 
-pub fn number(x: u32) {
-    word(b" ");
-    io::print_decimal(STDOUT_FILENO, x as u64);
+pub fn number(rt: &HostRuntime, x: u32) -> io::Result<()> {
+    print!(rt; " {x}")
 }
 
-pub fn three(a: u32, b: u32, c: u32) {
-    number(a);
-    number(b);
-    number(c);
+pub fn three(rt: &HostRuntime, a: u32, b: u32, c: u32) -> io::Result<()> {
+    number(rt, a)?;
+    number(rt, b)?;
+    number(rt, c)
 }
 
 // The first n numbers of a list, after its name; nothing where n is 0.
-pub fn list(name: &[u8], l: &[u32], n: usize) {
+pub fn list(rt: &HostRuntime, name: &[u8], l: &[u32], n: usize) -> io::Result<()> {
     if n == 0 {
-        return;
+        return Ok(());
     }
-    word(name);
+    word(rt, name)?;
     let mut i: usize = 0;
     while i < l.len() {
         if i == n {
-            return;
+            return Ok(());
         }
-        number(l[i]);
+        number(rt, l[i])?;
         i += 1;
     }
+    Ok(())
 }

@@ -1,0 +1,12 @@
+-- m, x, the count and the first i rows are written.
+use Prim.Native.Nat.{◌+◌, ◌*◌, ◌-◌, ◌≤◌}
+use Rattle.c_numbers.specs.Lent.{numbers_of}
+use Rattle.c_numbers.proofs.Upto.{Upto}
+use Rattle.table_row.specs.Limits.{most_rows}
+use Rattle.c_numbers.proofs.lent.numbers.Given as goal
+
+abbrev pub invariant-loop-i : goal.invariant-loop-i
+invariant-loop-i l = (l.i ≤ most_rows) × Upto (numbers_of l.t) (3 + 3 * l.i) l.all
+
+abbrev pub decreases-loop-i : goal.decreases-loop-i
+decreases-loop-i l = most_rows - l.i
