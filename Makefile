@@ -5,7 +5,7 @@
 #   make uninstall        removes what install has installed
 #   make check            runs the gate, .ci/run
 #
-# NATIVE=1 takes the library compiled for this machine by tools/native-archive, in place of the one for x86-64.
+# NATIVE=1 takes the library for this machine from tools/native-archive. The kit is for x86-64 alone, where it is the same one.
 
 PREFIX ?= /usr/local
 DESTDIR ?=
