@@ -13,13 +13,13 @@ answer_determined p q = p ∙ sym q
 pub judge_determined : {t : Table} {map pins map₁ pins₁ answer₁ map₂ pins₂ answer₂ : List ℕ}
     → Judges t map pins map₁ pins₁ answer₁ → Judges t map pins map₂ pins₂ answer₂
     → (map₁ ≡ map₂) × (pins₁ ≡ pins₂) × (answer₁ ≡ answer₂)
-judge_determined p q = (p.map_after_lem ∙ sym q.map_after_lem, p.pins_after_lem ∙ sym q.pins_after_lem, p.answer_is ∙ sym q.answer_is)
+judge_determined p q = (p.map_is ∙ sym q.map_is, p.pins_is ∙ sym q.pins_is, p.answer_is ∙ sym q.answer_is)
 
 pub ladder_determined : {t : Table} {map pins map₁ pins₁ square₁ answer₁ map₂ pins₂ square₂ answer₂ : List ℕ}
     → Ladders t map pins map₁ pins₁ square₁ answer₁ → Ladders t map pins map₂ pins₂ square₂ answer₂
     → (map₁ ≡ map₂) × (pins₁ ≡ pins₂) × (square₁ ≡ square₂) × (answer₁ ≡ answer₂)
 ladder_determined p q =
-    (p.map_after_lem ∙ sym q.map_after_lem, p.pins_after_lem ∙ sym q.pins_after_lem, p.square_is ∙ sym q.square_is, p.answer_is ∙ sym q.answer_is)
+    (p.map_is ∙ sym q.map_is, p.pins_is ∙ sym q.pins_is, p.square_is ∙ sym q.square_is, p.answer_is ∙ sym q.answer_is)
 
 -- add, remove and find
 pub table_determined : {t : Table} {r : Refusal} {table₁ answer₁ table₂ answer₂ : List ℕ}

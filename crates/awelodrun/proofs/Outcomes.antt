@@ -1,5 +1,5 @@
 -- What a library function promises of its answer, told in the answer's numbers.
-use mathlib.Core.Path.{◌≡◌, sym, ap, ◌∙◌}
+use mathlib.Core.Path.{◌≡◌, ap, ◌∙◌}
 use mathlib.Core.List.{List}
 use Prim.Native.Nat.{ℕ}
 use Rattle.table.specs.declared.Table.{Table}
@@ -18,7 +18,7 @@ use Rattle.awelodrun.specs.Outcomes.{Judges, Ladders, Edits, Finds, Writes}
 pub judges : {t u : Table} {map pins map' pins' answer : List ℕ} {v : Verdict}
     → u ≡ t → Judged u map pins map' pins' v → answer ≡ judge_answer (numbers v) → Judges t map pins map' pins' answer
 judges e r a =
-    rw (← e) (record { answer_is = a ∙ ap judge_answer r.answer; map_after_lem = r.map_after_lem; pins_after_lem = r.pins_after_lem })
+    rw (← e) (record { answer_is = a ∙ ap judge_answer r.answer; map_is = r.map_is; pins_is = r.pins_is })
 
 pub ladders : {t u : Table} {map pins map' pins' square answer : List ℕ} {s : Square}
     → u ≡ t → Laddered u map pins map' pins' s → square ≡ lines_answer s.lines → answer ≡ refusal_answer s.refusal
@@ -28,8 +28,8 @@ ladders e r l a =
     (record {
       square_is = l ∙ ap (λ (s : Square). lines_answer s.lines) r.answer;
       answer_is = a ∙ ap (λ (s : Square). refusal_answer s.refusal) r.answer;
-      map_after_lem = r.map_after_lem;
-      pins_after_lem = r.pins_after_lem;
+      map_is = r.map_is;
+      pins_is = r.pins_is;
     })
 
 pub edits : {r s : Edited} {table answer : List ℕ} → r ≡ s → table ≡ numbers_of r.table → answer ≡ refusal_answer r.refusal → Edits s table answer

@@ -15,15 +15,15 @@ use Rattle.table_row.specs.Limits.{most_depths}
 -- the judge: its numbers, and both lists as it leaves them
 pub record Judges (t : Table) (map pins map' pins' answer : List ℕ) : Type 0 where
   pub answer_is : answer ≡ judge_answer (judge_of t (length map) (length pins))
-  pub map_after_lem : map' ≡ map_after t t.depth map pins
-  pub pins_after_lem : pins' ≡ pins_after t t.depth map pins
+  pub map_is : map' ≡ map_after t t.depth map pins
+  pub pins_is : pins' ≡ pins_after t t.depth map pins
 
 -- the ladder: its square and refusal, and both lists at depth 8
 pub record Ladders (t : Table) (map pins map' pins' square answer : List ℕ) : Type 0 where
   pub square_is : square ≡ lines_answer (ladder_of t (length map) (length pins)).lines
   pub answer_is : answer ≡ refusal_answer (ladder_of t (length map) (length pins)).refusal
-  pub map_after_lem : map' ≡ map_after t most_depths map pins
-  pub pins_after_lem : pins' ≡ pins_after t most_depths map pins
+  pub map_is : map' ≡ map_after t most_depths map pins
+  pub pins_is : pins' ≡ pins_after t most_depths map pins
 
 -- a table and a refusal
 pub record Gives (t : Table) (r : Refusal) (table answer : List ℕ) : Type 0 where

@@ -70,8 +70,8 @@ unfolding judge_of
 judged_refused t map pins r e = record {
   answer = rw (← e, refuses t t.depth map pins r e);
   case = refl;
-  map_after_lem = map_kept t t.depth map pins r e;
-  pins_after_lem = pins_kept t t.depth map pins r e;
+  map_is = map_kept t t.depth map pins r e;
+  pins_is = pins_kept t t.depth map pins r e;
 }
 
 pub judged_given : (t : Table) (map pins map' pins' : List ℕ) (h n : ℕ) (l : Line) → checkNumbers (Frame h) ≡ admit_of t (length map) (length pins) → n ≡ h
@@ -83,6 +83,6 @@ judged_given t map pins map' pins' h n l e en q =
     record {
       answer = verdict_numbers l h (λ z. line ∙ line_none _ _ h (sym (ap (λ (k : Line). k.t) line) ∙ z)) ∙ rw (← e, line);
       case = verdict_case l h;
-      map_after_lem = map_reached t t.depth map pins h e reached;
-      pins_after_lem = pins_reached t t.depth map pins h e reached;
+      map_is = map_reached t t.depth map pins h e reached;
+      pins_is = pins_reached t t.depth map pins h e reached;
     }

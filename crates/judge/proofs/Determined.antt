@@ -30,6 +30,6 @@ determined t map pins map₁ pins₁ map₂ pins₂ r s p q =
     let e : numbers r ≡ numbers s = p.answer ∙ sym q.answer in
     let c : infeasible r ≡ infeasible s = p.case ∙ ap (λ (n : Numbers). not (eqb n.t 0)) e ∙ sym q.case in (
       same_verdict r s e c (λ z. rw p.answer (judge_frame t (length map) (length pins) (rw p.answer at z))),
-      p.map_after_lem ∙ sym q.map_after_lem,
-      p.pins_after_lem ∙ sym q.pins_after_lem,
+      p.map_is ∙ sym q.map_is,
+      p.pins_is ∙ sym q.pins_is,
     )

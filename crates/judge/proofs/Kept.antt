@@ -54,14 +54,14 @@ module _ (t : Table) (map pins map' pins' : List ℕ) (r : Verdict) (j : Judged 
   pub judge_refused_unchanged : 0 < (numbers r).refusal.no → (map' ≡ map) × (pins' ≡ pins)
   judge_refused_unchanged h =
       let k = after_refused t t.depth map pins (refuses h) in
-      (j.map_after_lem ∙ k.0, j.pins_after_lem ∙ k.1)
+      (j.map_is ∙ k.0, j.pins_is ∙ k.1)
 
   -- "Words from H on are unchanged"
   pub judge_past_frame : (numbers r).refusal.no ≡ 0 → (s : ℕ) → (numbers r).frame ≤ s → (get_or map' s 0 ≡ get_or map s 0) × (get_or pins' s 0 ≡ get_or pins s 0)
   judge_past_frame e s g =
       let v = verdict_given t map pins map' pins' r j e in
       let k = after_past t t.depth map pins (numbers r).frame (ap (λ (q : Refusal). q.no) v.accepts) v.frame s g in
-      (ap (λ (l : List ℕ). get_or l s 0) j.map_after_lem ∙ k.0, ap (λ (l : List ℕ). get_or l s 0) j.pins_after_lem ∙ k.1)
+      (ap (λ (l : List ℕ). get_or l s 0) j.map_is ∙ k.0, ap (λ (l : List ℕ). get_or l s 0) j.pins_is ∙ k.1)
 
   -- "Otherwise undecided, with H and zeros"
   pub judge_undecided : (numbers r).refusal.no ≡ 0 → infeasible r ≡ false → (numbers r ≡ given no_line (numbers r).frame) × Accepted t (numbers r).frame

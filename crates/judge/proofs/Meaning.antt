@@ -103,13 +103,13 @@ module _ (t : Table) (map pins map' pins' : List ℕ) (r : Verdict) (j : Judged 
   unfolding map_after
   map_left e s l =
       let g = verdict_given e in
-      rw (j.map_after_lem, ap (λ (q : Refusal). q.no) g.accepts, g.frame) (filled_at _ (numbers r).frame map s l)
+      rw (j.map_is, ap (λ (q : Refusal). q.no) g.accepts, g.frame) (filled_at _ (numbers r).frame map s l)
 
   pub pins_left : (numbers r).refusal.no ≡ 0 → (s : ℕ) → s < (numbers r).frame → get_or pins' s 0 ≡ words (model_of t) (pinned_at (model_of t) (t.depth - 1)) s
   unfolding pins_after
   pins_left e s l =
       let g = verdict_given e in
-      rw (j.pins_after_lem, ap (λ (q : Refusal). q.no) g.accepts, g.frame) (filled_at _ (numbers r).frame pins s l)
+      rw (j.pins_is, ap (λ (q : Refusal). q.no) g.accepts, g.frame) (filled_at _ (numbers r).frame pins s l)
 
   -- "or zeros when x is 1"
   pub pins_zero : (numbers r).refusal.no ≡ 0 → t.depth ≡ 1 → (s : ℕ) → s < (numbers r).frame → get_or pins' s 0 ≡ 0

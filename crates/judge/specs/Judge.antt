@@ -55,5 +55,5 @@ pub record Judged (t : Table) (map pins map' pins' : List ℕ) (r : Verdict) : T
   pub answer : numbers r ≡ judge_of t (length map) (length pins)
   -- an answer of infeasible has a length, and only such a one
   pub case : infeasible r ≡ not (eqb (numbers r).t 0)
-  pub map_after_lem : map' ≡ map_after t t.depth map pins
-  pub pins_after_lem : pins' ≡ pins_after t t.depth map pins
+  pub map_is : map' ≡ map_after t t.depth map pins
+  pub pins_is : pins' ≡ pins_after t t.depth map pins

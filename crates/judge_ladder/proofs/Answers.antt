@@ -28,8 +28,8 @@ pub laddered_refused : (t : Table) (map pins : List ℕ) (r : Refusal) (s : Squa
 unfolding ladder_of
 laddered_refused t map pins r s e p q = record {
   answer = made p q ∙ rw (← e, refuses t most_depths map pins r e);
-  map_after_lem = map_kept t most_depths map pins r e;
-  pins_after_lem = pins_kept t most_depths map pins r e;
+  map_is = map_kept t most_depths map pins r e;
+  pins_is = pins_kept t most_depths map pins r e;
 }
 
 pub laddered_given : (t : Table) (map pins map' pins' : List ℕ) (h n : ℕ) (q : List (List ℕ)) (l : List Line) (s : Square)
@@ -41,6 +41,6 @@ laddered_given t map pins map' pins' h n q l s e en c told p k =
     let reached : Reached (model_of t) most_depths h map pins map' pins' = rw en at c.reached in
     record {
       answer = made p (k ∙ lines_told (model_of t) h q l square told) ∙ rw (← e);
-      map_after_lem = map_reached t most_depths map pins h e reached;
-      pins_after_lem = pins_reached t most_depths map pins h e reached;
+      map_is = map_reached t most_depths map pins h e reached;
+      pins_is = pins_reached t most_depths map pins h e reached;
     }

@@ -74,4 +74,4 @@ module _ (t : Table) (map pins map' pins' map'' pins'' : List ℕ) (r : Square) 
   unfolding map_after pins_after
   lists_of_verdict J =
       let same = admit_depth t (length map) (length pins) most_depths accepts (omega arith) (omega arith) in
-      (rw (← same) J.map_after_lem ∙ sym L.map_after_lem, rw (← same) J.pins_after_lem ∙ sym L.pins_after_lem)
+      (rw (← same) J.map_is ∙ sym L.map_is, rw (← same) J.pins_is ∙ sym L.pins_is)

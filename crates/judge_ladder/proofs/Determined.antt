@@ -9,4 +9,4 @@ use Rattle.judge_ladder.specs.Ladder.{Laddered}
 pub determined : (t : Table) (map pins map₁ pins₁ map₂ pins₂ : List ℕ) (r s : Square)
     → Laddered t map pins map₁ pins₁ r → Laddered t map pins map₂ pins₂ s → (r ≡ s) × (map₁ ≡ map₂) × (pins₁ ≡ pins₂)
 determined t map pins map₁ pins₁ map₂ pins₂ r s p q =
-    (p.answer ∙ sym q.answer, p.map_after_lem ∙ sym q.map_after_lem, p.pins_after_lem ∙ sym q.pins_after_lem)
+    (p.answer ∙ sym q.answer, p.map_is ∙ sym q.map_is, p.pins_is ∙ sym q.pins_is)

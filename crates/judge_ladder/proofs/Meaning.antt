@@ -55,7 +55,7 @@ module _ (t : Table) (map pins map' pins' : List ℕ) (r : Square) (L : Laddered
   ladder_refused_unchanged h =
       let n : c.refusal.no ≡ 0 → ⊥ = λ z. omega (arith, ap (λ (q : Refusal). q.no) refusal_is) in
       let k = after_refused t most_depths map pins n in
-      (L.map_after_lem ∙ k.0, L.pins_after_lem ∙ k.1, ap (λ (s : Square). s.lines) L.answer ∙ rw (ne_eqb c.refusal.no 0 n))
+      (L.map_is ∙ k.0, L.pins_is ∙ k.1, ap (λ (s : Square). s.lines) L.answer ∙ rw (ne_eqb c.refusal.no 0 n))
 
 -- where it is not, on the frame h of the table
 module _ (t : Table) (map pins map' pins' : List ℕ) (r : Square) (L : Laddered t map pins map' pins' r) (e : r.refusal.no ≡ 0) (h : ℕ) (a : Accepted t h) where
@@ -71,12 +71,12 @@ module _ (t : Table) (map pins map' pins' : List ℕ) (r : Square) (L : Laddered
   pub ladder_past_frame : (s : ℕ) → h ≤ s → (get_or map' s 0 ≡ get_or map s 0) × (get_or pins' s 0 ≡ get_or pins s 0)
   ladder_past_frame s g =
       let k = after_past t most_depths map pins h fine frame_is s g in
-      (ap (λ (l : List ℕ). get_or l s 0) L.map_after_lem ∙ k.0, ap (λ (l : List ℕ). get_or l s 0) L.pins_after_lem ∙ k.1)
+      (ap (λ (l : List ℕ). get_or l s 0) L.map_is ∙ k.0, ap (λ (l : List ℕ). get_or l s 0) L.pins_is ∙ k.1)
 
   -- the map that it leaves is that of the last depth
   pub ladder_map_left : (s : ℕ) → s < h → get_or map' s 0 ≡ words (model_of t) (map_at t most_depths) s
   unfolding map_after
-  ladder_map_left s l = rw (L.map_after_lem, fine, frame_is) (filled_at _ h map s l)
+  ladder_map_left s l = rw (L.map_is, fine, frame_is) (filled_at _ h map s l)
 
   module _ (y : ℕ) (k : y < most_depths) where
     abbrev line : Line

@@ -26,5 +26,5 @@ ladder_of t a b =
 -- the ladder's contract: the answer, and "Both lists end as the judge leaves them at depth 8"
 pub record Laddered (t : Table) (map pins map' pins' : List ℕ) (r : Square) : Type 0 where
   pub answer : r ≡ ladder_of t (length map) (length pins)
-  pub map_after_lem : map' ≡ map_after t most_depths map pins
-  pub pins_after_lem : pins' ≡ pins_after t most_depths map pins
+  pub map_is : map' ≡ map_after t most_depths map pins
+  pub pins_is : pins' ≡ pins_after t most_depths map pins

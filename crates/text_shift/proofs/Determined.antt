@@ -10,5 +10,5 @@ pub determined : (file map pins out map₁ pins₁ out₁ map₂ pins₂ out₂ 
     → Shifted file map pins out map₁ pins₁ out₁ r → Shifted file map pins out map₂ pins₂ out₂ q
     → (r ≡ q) × (out₁ ≡ out₂) × (map₁ ≡ map₂) × (pins₁ ≡ pins₂)
 determined file map pins out map₁ pins₁ out₁ map₂ pins₂ out₂ r q f g =
-    let e = by_equation f.lists_after_lem g.lists_after_lem in
+    let e = by_equation f.lists_are g.lists_are in
     (by_equation f.answer g.answer, by_equation f.output g.output, ap (λ (l : Lists). l.map) e, ap (λ (l : Lists). l.pins) e)

@@ -11,5 +11,5 @@ pub text_refused_unchanged : (file map pins out map' pins' out' : List ℕ) (r :
     → (map' ≡ map) × (pins' ≡ pins)
 unfolding lists_after
 text_refused_unchanged file map pins out map' pins' out' r p refused =
-    let e : lists map' pins' ≡ lists map pins = p.lists_after_lem ∙ rw (ne_eqb _ _ refused) in
+    let e : lists map' pins' ≡ lists map pins = p.lists_are ∙ rw (ne_eqb _ _ refused) in
     (ap (λ (l : Lists). l.map) e, ap (λ (l : Lists). l.pins) e)

@@ -43,7 +43,7 @@ told_then c {xs = xs} {ys = ys} h p q = record {
 module _ {s : List ℕ} {i : ℕ} {map pins out : List ℕ} {at : ℕ} where
   pub entered_note : is_table (kind_of (kind_at s i)) ≡ false → Entered s i map pins out at map pins out at
   unfolding entry_line entry_lists when
-  entered_note e = record { told = rw e (told_none longest out at); lists_after_lem = rw e }
+  entered_note e = record { told = rw e (told_none longest out at); lists_are = rw e }
 
   pub entered_table : {map' pins' out' : List ℕ} {r number : ℕ} {t : Table} {v : Verdict} → is_table (kind_of (kind_at s i)) ≡ true
       → number ≡ number_at s i → t ≡ table_at s i → length map ≡ most_slots → length pins ≡ most_slots
@@ -54,21 +54,21 @@ module _ {s : List ℕ} {i : ℕ} {map pins out : List ℕ} {at : ℕ} where
       let here : table_line number (judge_of t most_slots most_slots) ≡ table_line (number_at s i) (judge_of (table_at s i) most_slots most_slots) = ap₂ (λ (k : ℕ) (t : Table). table_line k (judge_of t most_slots most_slots)) f g in
       record {
         told = rw (e, ← here, ← line) w;
-        lists_after_lem = rw (e, ← g) (ap₂ lists j.map_after_lem j.pins_after_lem);
+        lists_are = rw (e, ← g) (ap₂ lists j.map_is j.pins_is);
       }
 
 -- the first entries, one more at a time
 module _ {s : List ℕ} {map pins out : List ℕ} where
   pub through_none : Through s 0 map pins out map pins out 0
   unfolding lines_to lists_to
-  through_none = record { told = told_none 0 out 0; lists_after_lem = refl }
+  through_none = record { told = told_none 0 out 0; lists_are = refl }
 
   pub through_more : {i : ℕ} {map₁ pins₁ out₁ map₂ pins₂ out₂ : List ℕ} {at r : ℕ} → Through s i map pins out map₁ pins₁ out₁ at
       → Entered s i map₁ pins₁ out₁ at map₂ pins₂ out₂ r → Through s (i + 1) map pins out map₂ pins₂ out₂ r
   unfolding lines_to lists_to
   through_more {i} p q = rw add-one record {
     told = told_then (longest * suc i) (omega arith) p.told q.told;
-    lists_after_lem = q.lists_after_lem ∙ ap (entry_lists s i) p.lists_after_lem;
+    lists_are = q.lists_are ∙ ap (entry_lists s i) p.lists_are;
   }
 
 -- the whole file
@@ -82,7 +82,7 @@ module _ {s : List ℕ} {map pins out out' : List ℕ} {r : ℕ} (room : length 
         answer = rw e (put_place p (omega (arith, w.short)) ∙ zero-add _);
         output = rw e p.output;
         room = rw e (omega (arith, w.short));
-        lists_after_lem = rw e;
+        lists_are = rw e;
       }
 
   pub shifted_refused : (q : Refusal) → q ≡ file_refusal s → (q.no ≡ 0 → ⊥) → Told longest out 0 (refused_line q) out' r → Shifted s map pins out map pins out' r
@@ -99,7 +99,7 @@ module _ {s : List ℕ} {map pins out out' : List ℕ} {r : ℕ} (room : length 
         answer = rw (e, ← g) (put_place p (omega (arith, w.told.short)) ∙ zero-add _);
         output = rw (e, ← g) p.output;
         room = rw (e, ← g) (omega (arith, w.told.short));
-        lists_after_lem = rw (e, ← g) w.lists_after_lem;
+        lists_are = rw (e, ← g) w.lists_are;
       }
 
 -- the text is within the output

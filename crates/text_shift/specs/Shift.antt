@@ -19,4 +19,4 @@ pub record Shifted (file map pins out map' pins' out' : List ℕ) (r : ℕ) : Ty
   pub output : out' ≡ over out 0 (text_of file)
   -- every text has room in the output
   pub room : length (text_of file) ≤ text_room
-  pub lists_after_lem : lists map' pins' ≡ lists_after file (lists map pins)
+  pub lists_are : lists map' pins' ≡ lists_after file (lists map pins)

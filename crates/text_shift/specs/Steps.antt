@@ -9,9 +9,9 @@ use Rattle.text_shift.specs.Shift.{lists}
 -- entry i, with its line at a place
 pub record Entered (file : List ℕ) (i : ℕ) (map pins out : List ℕ) (at : ℕ) (map' pins' out' : List ℕ) (r : ℕ) : Type 0 where
   pub told : Told longest out at (entry_line file i) out' r
-  pub lists_after_lem : lists map' pins' ≡ entry_lists file i (lists map pins)
+  pub lists_are : lists map' pins' ≡ entry_lists file i (lists map pins)
 
 -- the first n entries
 pub record Through (file : List ℕ) (n : ℕ) (map pins out map' pins' out' : List ℕ) (r : ℕ) : Type 0 where
   pub told : Told (longest * n) out 0 (lines_to file n) out' r
-  pub lists_after_lem : lists map' pins' ≡ lists_to file n (lists map pins)
+  pub lists_are : lists map' pins' ≡ lists_to file n (lists map pins)
