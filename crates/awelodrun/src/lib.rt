@@ -1,4 +1,6 @@
 // The library for C and Rust: every public function, on plain numbers and lent lists.
+#![tactic(auto)]
+
 pub mod edits;
 pub mod files;
 pub mod tables;

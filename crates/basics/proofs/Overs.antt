@@ -1,11 +1,11 @@
 -- How a loop's turns come together into what it leaves.
 use mathlib.Core.Path.{◌≡◌, refl, sym, ap, ◌∙◌}
-use mathlib.Core.List.{List, [], ◌∷◌, ◌++◌}
-use mathlib.Core.Logic.{◌⊎◌, inl, inr, ⊎_elim}
-use Prim.Native.Nat.{ℕ, zero, suc, ◌+◌, ◌-◌, ◌≤◌, ◌<◌}
-use native.Mathlib.Nat.{le_of_suc-le-suc, not-suc-le-zero, eq-or-lt_of_le}
+use mathlib.Core.List.{List}
+use mathlib.Core.Logic.{⊎_elim}
+use Prim.Native.Nat.{ℕ, suc, ◌+◌, ◌≤◌, ◌<◌}
+use native.Mathlib.Nat.{le_of_suc-le-suc, eq-or-lt_of_le}
 use native.Mathlib.Omega.{arith}
-use lib.ListN.{length, get_or, set, drop, length-set}
+use lib.ListN.{length, get_or, set, length-set}
 use lib.Seq.{get_or-set_same, get_or-set_other, set-get_or, ext_get_or}
 use Rattle.basics.proofs.Bools.{lt_or_ge}
 use Rattle.basics.specs.Over.{Over, Holds, Same}

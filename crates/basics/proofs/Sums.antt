@@ -1,8 +1,8 @@
 -- Laws of sums, and of tests of all numbers below a bound. Assumes nothing.
-use mathlib.Core.Path.{◌≡◌, refl, sym, ap, ap₂, ◌∙◌}
-use mathlib.Core.Bool.{Bool, true, false, true≢false, false≢true}
-use Prim.Native.Nat.{ℕ, zero, suc, ◌+◌, ◌*◌, ◌≤◌, ◌<◌, zero-le, suc-le-suc}
-use native.Mathlib.Nat.{le_of_suc-le-suc, not-suc-le-zero, eq-or-lt_of_le, le_refl, le_trans, le_of_eq, le_step, add-le-add, le_dest, le-add_right, add-zero, add-suc, add_assoc, mul-add, mul-zero, mul-suc, mul-le-mul_left}
+use mathlib.Core.Path.{◌≡◌, refl, sym, ap₂}
+use mathlib.Core.Bool.{Bool, true, false, false≢true}
+use Prim.Native.Nat.{ℕ, zero, suc, ◌+◌, ◌*◌, ◌≤◌, ◌<◌, zero-le}
+use native.Mathlib.Nat.{le_of_suc-le-suc, not-suc-le-zero, eq-or-lt_of_le, le_refl, le_step, add-le-add, le_dest, le-add_right, add-zero, add-suc, add_assoc, mul-add, mul-zero, mul-suc}
 use native.Mathlib.Omega.{arith}
 use mathlib.Core.Logic.{◌⊎◌, inl, inr}
 use Rattle.basics.specs.Sum.{sum, bit, all}

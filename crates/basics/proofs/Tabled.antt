@@ -1,12 +1,12 @@
 -- What a loop leaves in a list, as an equation of lists; and what such a list holds.
-use mathlib.Core.Path.{◌≡◌, refl, sym, ap, ap₂, ◌∙◌}
+use mathlib.Core.Path.{◌≡◌, refl, ap, ap₂, ◌∙◌}
 use mathlib.Core.List.{List, [], ◌∷◌, ◌++◌}
 use Prim.Native.Nat.{ℕ, zero, suc, ◌+◌, ◌-◌, ◌≤◌, ◌<◌}
 use native.Mathlib.Nat.{le_of_suc-le-suc, not-suc-le-zero}
 use native.Mathlib.Omega.{arith}
 use lib.ListN.{length, get_or, drop, get_or-append}
 use lib.Seq.{ext_get_or, get_or-append-add, get_or-drop}
-use Rattle.basics.specs.Over.{Over, Holds}
+use Rattle.basics.specs.Over.{Over}
 use Rattle.basics.specs.Filled.{tab, filled}
 
 pub tab_length : (f : ℕ → ℕ) (h : ℕ) → length (tab f h) ≡ h

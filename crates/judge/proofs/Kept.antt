@@ -18,7 +18,7 @@ use Rattle.judge.specs.declared.Verdict.TheVariants.{Infeasible, Undecided, Refu
 use Rattle.judge_admit.specs.Admit.{admit_of}
 use Rattle.judge.specs.After.{unless_refused, map_after, pins_after}
 use Rattle.judge.specs.Judge.{Numbers, given, numbers, infeasible, Judged}
-use Rattle.judge.proofs.Outcomes.{Given, Withheld, judge_outcome}
+use Rattle.judge.proofs.Outcomes.{judge_outcome}
 use Rattle.judge.proofs.Meaning.{verdict_given}
 
 module _ (c : CheckNumbers) (f : ℕ → ℕ) (l : List ℕ) where

@@ -5,7 +5,6 @@ use mathlib.Core.List.{List}
 use Prim.Native.Nat.{ℕ, ◌-◌}
 use lib.Dec.{eqb}
 use lib.ListN.{length}
-use Rattle.basics.specs.Filled.{filled}
 use Rattle.basics.proofs.Tabled.{filled_ext}
 use Rattle.model.specs.Model.{Model, Map}
 use Rattle.model.specs.Depths.{available, pinned_at}

@@ -1,5 +1,6 @@
 // The judge of a table: whether some length of the frame has more work due than its slots supply.
 #![tactic(auto)]
+
 ghost use Rattle.std.specs.Prelude.{◌≡◌, length};
 ghost use Rattle.judge_admit.specs.Admit.{Admitted};
 ghost use Rattle.judge.specs.Judge.{Judged};

@@ -1,5 +1,6 @@
 // Whether a table is judged: its frame, where both lent lists have room for it, or the first refusal.
 #![tactic(auto)]
+
 ghost use Rattle.std.specs.Prelude.{◌≡◌};
 ghost use Rattle.table.specs.Check.{numbers as checkNumbers, refused};
 ghost use Rattle.judge_admit.specs.Admit.{long_enough, admit_of};

@@ -1,5 +1,6 @@
 // The square of numbers of the depths 1 to 8, each depth worked out from the one before.
 #![tactic(auto)]
+
 ghost use Rattle.std.specs.Prelude.{◌≡◌, ◌≤◌, length};
 ghost use Rattle.table_row.specs.Limits.{most_depths};
 ghost use Rattle.judge_scan.specs.Lines.{Scannable};

@@ -1,5 +1,6 @@
 // One depth further, in place: the pins of a depth and the map of the next.
 #![tactic(auto)]
+
 ghost use Rattle.std.specs.Prelude.{◌≤◌, length, get_or};
 ghost use Rattle.basics.specs.Over.{Over, Holds};
 ghost use Rattle.model.specs.Depths.{available};

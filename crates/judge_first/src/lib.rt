@@ -1,5 +1,6 @@
 // The map of depth 1, slot by slot.
 #![tactic(auto)]
+
 ghost use Rattle.std.specs.Prelude.{◌≡◌, cond, ℕ, ◌%◌, ◌≤◌, ◌<◌, ltb, length, get_or};
 ghost use Rattle.basics.specs.Over.{Over};
 ghost use Rattle.model.specs.Depths.{available};

@@ -1,5 +1,6 @@
 // What the jobs of a row do to the pins and to the map.
 #![tactic(auto)]
+
 ghost use Rattle.std.specs.Prelude.{◌≡◌, true, false, not, ◌||◌, ◌+◌, ◌%◌, ◌≤◌, ◌<◌, eqb, length};
 ghost use Rattle.basics.specs.Over.{Over};
 ghost use Rattle.judge_jobs.specs.First.{in_slot, tally, first};

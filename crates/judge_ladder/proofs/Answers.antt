@@ -11,7 +11,6 @@ use Rattle.refusal.specs.Refusal.{none}
 use Rattle.table.specs.Meaning.{model_of}
 use Rattle.judge_deepen.specs.Reached.{Reached}
 use Rattle.judge_scan.specs.declared.Line.{Line}
-use Rattle.judge_scan.specs.Lines.{no_line}
 use Rattle.judge_admit.specs.Admit.{admit_of}
 use Rattle.judge.proofs.Answers.{refuses, map_kept, pins_kept, map_reached, pins_reached}
 use Rattle.judge_ladder.specs.declared.Square.{Square}

@@ -1,6 +1,6 @@
 -- Each line of the ladder has the numbers that the judge gives at its depth, and the lists end as the judge leaves them at depth 8.
 use mathlib.Core.Path.{◌≡◌, sym, ap, ◌∙◌}
-use mathlib.Core.Bool.{true, cond}
+use mathlib.Core.Bool.{cond}
 use mathlib.Core.List.{List}
 use mathlib.Core.Logic.{⊎_elim}
 use Prim.Native.Nat.{ℕ, suc, ◌-◌, ◌≤◌}

@@ -1,13 +1,13 @@
 -- What the ladder's square and lists mean: demands 2 and 3 at each depth, what stays as it was, and that rows past the count never matter.
-use mathlib.Core.Path.{◌≡◌, refl, sym, ap, ap₂, ◌∙◌}
+use mathlib.Core.Path.{◌≡◌, sym, ap, ◌∙◌}
 use mathlib.Core.Bool.{cond}
 use mathlib.Core.List.{List}
 use mathlib.Core.Logic.{◌↔◌, ⊎_elim}
-use Prim.Native.Nat.{ℕ, suc, ◌-◌, ◌≤◌, ◌<◌}
+use Prim.Native.Nat.{ℕ, suc, ◌≤◌, ◌<◌}
 use native.Mathlib.Omega.{arith}
 use lib.Dec.{eqb}
 use lib.ListN.{length, get_or}
-use borrow.Author.Tests.{eq-eqb, ne_eqb}
+use borrow.Author.Tests.{ne_eqb}
 use Rattle.basics.proofs.Tabled.{filled_at}
 use Rattle.refusal.specs.declared.Refusal.{Refusal}
 use Rattle.model.specs.Model.{Map}
@@ -36,7 +36,7 @@ use Rattle.judge.proofs.Lines.{line_t, line_some}
 use Rattle.judge.proofs.Kept.{after_refused, after_past}
 use Rattle.judge.proofs.Past.{line_alike, admit_alike, map_alike, pins_alike}
 use Rattle.judge_ladder.specs.declared.Square.{Square}
-use Rattle.judge_climb.specs.Lines.{depths, lines_of}
+use Rattle.judge_climb.specs.Lines.{lines_of}
 use Rattle.judge_ladder.specs.Ladder.{no_lines, ladder_of, Laddered}
 use Rattle.judge_climb.proofs.Squares.{lines_at, lines_ext}
 

@@ -1,5 +1,6 @@
 // The ladder: the lines of the depths 1 to 8 of a table, or its refusal.
 #![tactic(auto)]
+
 ghost use Rattle.std.specs.Prelude.{◌≡◌};
 ghost use Rattle.table_row.specs.Limits.{most_depths};
 ghost use Rattle.refusal.specs.Refusal.{none};

@@ -1,5 +1,6 @@
 // The least length at which more work is due than the slots of a map supply.
 #![tactic(auto)]
+
 ghost use Rattle.std.specs.Prelude.{◌≡◌, ◌⊎◌, ℕ, ◌+◌, ◌^◌, ◌≤◌, ◌<◌, min, length, get_or};
 ghost use Rattle.std.specs.Int.Count.{ones};
 ghost use Rattle.basics.specs.Over.{Over};

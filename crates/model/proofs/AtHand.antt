@@ -1,7 +1,7 @@
 -- Cases at hand, computed straight from the definitions: each turn that a definition could take wrongly makes one of these false.
 use mathlib.Core.Path.{◌≡◌, refl}
-use mathlib.Core.Bool.{Bool, true, false}
-use mathlib.Core.List.{List, [], ◌∷◌}
+use mathlib.Core.Bool.{true, false}
+use mathlib.Core.List.{[], ◌∷◌}
 use Rattle.basics.specs.Sum.{sum}
 use Rattle.model.specs.Model.{Model}
 use Rattle.model.specs.Windows.{window}

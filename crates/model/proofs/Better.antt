@@ -1,16 +1,16 @@
 -- Demand 3: a valid schedule gives, for each depth, one that runs rows only where that depth has them.
-use mathlib.Core.Path.{◌≡◌, refl, sym, ap, ap₂, ◌∙◌}
-use mathlib.Core.Logic.{◌⊎◌, inl, inr, ⊎_elim}
-use mathlib.Core.Bool.{Bool, true, false, not, cond, ◌&&◌, ◌||◌}
-use Prim.Native.Nat.{ℕ, zero, suc, ◌+◌, ◌*◌, ◌/◌, ◌%◌, ◌≤◌, ◌<◌, zero-le, suc-le-suc}
-use native.Mathlib.Nat.{le_refl, le_trans, le_of_eq, lt_of_lt_of_le, not-le_of_lt}
-use lib.Dec.{leb, ltb}
-use lib.Arith.{digits_div, digits_mod}
-use borrow.Author.Tests.{ltb-true, leb-true, leb-false}
+use mathlib.Core.Path.{◌≡◌, refl, sym, ap, ◌∙◌}
+use mathlib.Core.Logic.{◌⊎◌, ⊎_elim}
+use mathlib.Core.Bool.{Bool, true, false, not, cond}
+use Prim.Native.Nat.{ℕ, zero, suc, ◌+◌, ◌*◌, ◌/◌, ◌≤◌, ◌<◌}
+use native.Mathlib.Nat.{le_trans, lt_of_lt_of_le, not-le_of_lt}
+use lib.Dec.{leb}
+use lib.Arith.{digits_div}
+use borrow.Author.Tests.{leb-true, leb-false}
 use Rattle.basics.specs.Sum.{sum, bit}
 use Rattle.model.specs.Model.{Model, Sound, Map}
 use Rattle.model.specs.Windows.{window}
-use Rattle.model.specs.Pins.{size, pin, pins, pinned}
+use Rattle.model.specs.Pins.{size, pinned}
 use Rattle.model.specs.Depths.{full, next, available}
 use Rattle.model.specs.Schedule.{Valid, Within}
 use Rattle.basics.proofs.Bools.{and_left, and_true, or_left, or_right, cond_cases, test}

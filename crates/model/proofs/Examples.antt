@@ -1,7 +1,7 @@
 -- Models that have a valid schedule, so that the definition is seen not to be empty.
 use mathlib.Core.Path.{refl}
 use mathlib.Core.Bool.{not}
-use mathlib.Core.List.{List, [], ◌∷◌}
+use mathlib.Core.List.{[], ◌∷◌}
 use Prim.Native.Nat.{◌+◌, ◌%◌}
 use lib.Dec.{eqb}
 use Rattle.basics.specs.Sum.{sum, all}

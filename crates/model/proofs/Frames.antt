@@ -1,12 +1,11 @@
 -- Frames repeat: the jobs due, the work due and the supply of any length are those of whole frames and of the rest.
 use mathlib.Core.Path.{◌≡◌, refl, sym, ap, ap₂, ◌∙◌}
 use mathlib.Core.Logic.{◌↔◌}
-use mathlib.Core.Bool.{Bool, true, false, not, cond, ◌&&◌, ◌||◌}
-use Prim.Native.Nat.{ℕ, zero, suc, ◌+◌, ◌*◌, ◌-◌, ◌/◌, ◌%◌, ◌≤◌, ◌<◌, ◌∣◌, min, zero-le, suc-le-suc}
-use native.Mathlib.Nat.{le_refl, le_trans, le_of_eq, le_of_lt, lt_of_lt_of_le, add-le-add, zero-add, add-zero, add_assoc, add_comm, suc-mul, zero-mul, add-mul, mul-add, mul-one, mul-le-mul_left, div-mul_cancel, div-add-mod', mod-lt, mul-add-div_right, mul-add-mod_self_right, add-div_right, div-eq_of_lt, le-div_iff_mul-le}
+use mathlib.Core.Bool.{Bool, true, false, cond}
+use Prim.Native.Nat.{ℕ, zero, suc, ◌+◌, ◌*◌, ◌-◌, ◌/◌, ◌%◌, ◌≤◌, ◌<◌, min}
+use native.Mathlib.Nat.{zero-add, add-zero, add_assoc, add_comm, suc-mul, zero-mul, add-mul, mul-add, div-mul_cancel, mul-add-div_right, mul-add-mod_self_right, add-div_right, div-eq_of_lt, le-div_iff_mul-le}
 use native.Mathlib.Omega.{arith}
-use native.Mathlib.Numerals.{add-one}
-use lib.Dec.{leb, ltb}
+use lib.Dec.{leb}
 use borrow.Author.Tests.{leb-true, leb-false}
 use Rattle.basics.specs.Sum.{sum, bit}
 use Rattle.model.specs.Model.{Model, Sound, Frame, Map}

@@ -1,18 +1,16 @@
 -- What a pin tells, and the pins of a job. Assumes nothing.
-use mathlib.Core.Path.{◌≡◌, refl, sym, ap, ap₂, ◌∙◌}
-use mathlib.Core.Bool.{Bool, true, false, not, cond, ◌&&◌, ◌||◌}
-use Prim.Native.Nat.{ℕ, zero, suc, ◌+◌, ◌*◌, ◌/◌, ◌%◌, ◌≤◌, ◌<◌, zero-le, suc-le-suc}
-use native.Mathlib.Nat.{le_refl, le_trans, le_of_eq, le_of_suc-le, le_antisymm, mul-le-mul_left}
+use mathlib.Core.Path.{◌≡◌, refl, sym, ap, ap₂}
+use mathlib.Core.Bool.{Bool, true, false}
+use Prim.Native.Nat.{ℕ, zero, suc, ◌+◌, ◌*◌, ◌≤◌, ◌<◌, zero-le}
+use native.Mathlib.Nat.{le_of_suc-le, le_antisymm, mul-le-mul_left}
 use native.Mathlib.Omega.{arith}
-use lib.Dec.{leb, ltb}
+use lib.Dec.{leb}
 use lib.Arith.{digits_div, digits_mod}
 use borrow.Author.Tests.{ltb-true, leb-true}
 use Rattle.basics.specs.Sum.{sum, bit}
-use Rattle.model.specs.Model.{Model, Sound, Map}
-use Rattle.model.specs.Windows.{window}
+use Rattle.model.specs.Model.{Model, Map}
 use Rattle.model.specs.Pins.{size, pin, pins, pinned}
-use Rattle.model.specs.Depths.{full, next, available}
-use Rattle.model.specs.Schedule.{Within}
+use Rattle.model.specs.Depths.{full}
 use Rattle.basics.proofs.Bools.{and_left, and_right}
 use Rattle.basics.proofs.Sums.{bit_le, sum_le}
 

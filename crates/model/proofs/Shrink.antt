@@ -1,20 +1,19 @@
 -- The available sets never grow with depth, and the pinned sets are inside them.
-use mathlib.Core.Path.{◌≡◌, refl, sym, ap, ap₂, ◌∙◌}
+use mathlib.Core.Path.{◌≡◌, refl, sym, ap, ◌∙◌}
 use mathlib.Core.Logic.{◌⊎◌, inl, inr, ⊎_elim}
-use mathlib.Core.Bool.{Bool, true, false, not, cond, ◌&&◌, ◌||◌, false≢true}
-use Prim.Native.Nat.{ℕ, zero, suc, ◌+◌, ◌*◌, ◌/◌, ◌%◌, ◌≤◌, ◌<◌, min, zero-le, suc-le-suc}
-use native.Mathlib.Nat.{le_refl, le_trans, le_of_eq, lt_of_lt_of_le, le_of_suc-le, le-min, min-le_left, min-le_right}
+use mathlib.Core.Bool.{Bool, true, false, not, false≢true}
+use Prim.Native.Nat.{ℕ, zero, suc, ◌+◌, ◌*◌, ◌/◌, ◌≤◌, ◌<◌}
+use native.Mathlib.Nat.{le_refl, le_trans, lt_of_lt_of_le, le_of_suc-le, le-min, min-le_left, min-le_right}
 use native.Mathlib.Decide.{le_ind}
-use lib.Dec.{leb, ltb}
 use lib.Arith.{digits_div, digits_mod}
 use borrow.Author.Tests.{lt-ltb, le-leb, not-true}
-use Rattle.basics.specs.Sum.{sum, bit}
+use Rattle.basics.specs.Sum.{bit}
 use Rattle.model.specs.Model.{Model, Sound, Map}
 use Rattle.model.specs.Windows.{window}
 use Rattle.model.specs.Pins.{size, pin, pins, pinned}
 use Rattle.model.specs.Depths.{full, next, available, pinned_at}
 use Rattle.model.specs.Supply.{supply, usable}
-use Rattle.basics.proofs.Bools.{and_left, and_right, and_true, or_cases, or_left, or_right, test, same, clash}
+use Rattle.basics.proofs.Bools.{and_right, and_true, or_cases, or_left, or_right, test, same, clash}
 use Rattle.basics.proofs.Sums.{sum_le}
 use Rattle.model.proofs.Pins.{size_le, pin_in, pin_room, pin_wants, pinned_in_lem, pinned_slot}
 use Rattle.model.proofs.Better.{next_window}

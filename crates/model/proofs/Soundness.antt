@@ -1,8 +1,8 @@
 -- Where a valid schedule exists, the work due is at most the usable supply; so infeasible means that none does.
-use mathlib.Core.Path.{◌≡◌, refl, sym, ap, ap₂, ◌∙◌}
+use mathlib.Core.Path.{◌≡◌, refl, sym, ◌∙◌}
 use mathlib.Core.Bool.{Bool, true, false, cond}
-use Prim.Native.Nat.{ℕ, zero, suc, ◌+◌, ◌*◌, ◌-◌, ◌/◌, ◌%◌, ◌≤◌, ◌<◌, min, zero-le, suc-le-suc}
-use native.Mathlib.Nat.{le_refl, le_trans, le_of_eq, le_step, le_of_lt, lt_of_lt_of_le, lt_of_le_of_lt, not-le_of_lt, add-le-add, le-add_right, suc-mul, zero-mul, mul-zero, mul_comm, mul-le-mul_left, mul-le-mul_right, le-min, div-mul-le_self}
+use Prim.Native.Nat.{ℕ, zero, suc, ◌+◌, ◌*◌, ◌-◌, ◌/◌, ◌≤◌, ◌<◌, zero-le}
+use native.Mathlib.Nat.{le_refl, le_trans, le_of_eq, le_step, lt_of_lt_of_le, lt_of_le_of_lt, not-le_of_lt, add-le-add, suc-mul, zero-mul, mul-zero, mul_comm, mul-le-mul_left, mul-le-mul_right, le-min, div-mul-le_self}
 use native.Mathlib.Omega.{arith}
 use native.Mathlib.Numerals.{add-one}
 use lib.Dec.{leb}

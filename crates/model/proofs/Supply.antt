@@ -1,7 +1,7 @@
 -- "Over t slots the two sums come to m times t": usable and unusable supply come to the capacities' sum.
 use mathlib.Core.Path.{◌≡◌, sym, ◌∙◌}
-use Prim.Native.Nat.{ℕ, ◌+◌, ◌*◌, ◌-◌, ◌≤◌, ◌<◌, min}
-use native.Mathlib.Nat.{min-le_left, mul_comm}
+use Prim.Native.Nat.{ℕ, ◌+◌, ◌*◌}
+use native.Mathlib.Nat.{min-le_left}
 use native.Mathlib.Omega.{arith}
 use Rattle.basics.specs.Sum.{sum}
 use Rattle.model.specs.Model.{Model, Map}

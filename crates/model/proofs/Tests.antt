@@ -1,15 +1,13 @@
 -- Tests that compute, and what they tell. Assumes nothing.
-use mathlib.Core.Path.{◌≡◌, refl, sym, ap, ◌∙◌}
-use mathlib.Core.Logic.{◌⊎◌, inl, inr}
-use mathlib.Core.Bool.{Bool, true, false, not, ◌&&◌, ◌||◌}
-use Prim.Native.Nat.{ℕ, zero, suc, ◌+◌, ◌*◌, ◌≤◌, ◌<◌}
-use native.Mathlib.Nat.{le_of_suc-le-suc, not-suc-le-zero, eq-or-lt_of_le, lt_of_le_of_lt, le-mul_of_pos_right, le_trans}
-use lib.Dec.{leb, ltb, eqb}
+use mathlib.Core.Path.{◌≡◌}
+use mathlib.Core.Bool.{Bool, true, not, ◌&&◌, ◌||◌}
+use Prim.Native.Nat.{ℕ}
+use native.Mathlib.Nat.{lt_of_le_of_lt, le-mul_of_pos_right, le_trans}
+use lib.Dec.{leb}
 use borrow.Author.Tests.{leb-true, eqb-true, lt-ltb}
-use Rattle.basics.specs.Sum.{sum, bit, all}
+use Rattle.basics.specs.Sum.{all}
 use Rattle.model.specs.Model.{Model, Sound, Map}
 use Rattle.model.specs.Windows.{window}
-use Rattle.model.specs.Pins.{size}
 use Rattle.model.specs.Schedule.{Valid}
 use Rattle.model.specs.Tests.{sound, valid, inside_ok, runs_ok, fits_ok}
 use Rattle.basics.proofs.Bools.{and_left, and_right}

@@ -1,5 +1,5 @@
 -- The lengths at which more work is due than the usable supply, and the least of them.
-use Rattle.std.specs.Prelude.{◌≡◌, Bool, cond, ℕ, zero, suc, ◌≤◌, ◌<◌, ltb, eqb}
+use Rattle.std.specs.Prelude.{Bool, cond, ℕ, zero, suc, ◌≤◌, ◌<◌, ltb, eqb}
 use Rattle.model.specs.Model.{Model, Map}
 use Rattle.model.specs.Supply.{supply}
 use Rattle.model.specs.Work.{work_due}

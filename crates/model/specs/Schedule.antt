@@ -1,5 +1,5 @@
 -- A valid schedule of one frame: first releases together, then one each period.
-use Rattle.std.specs.Prelude.{◌≡◌, Bool, true, ℕ, ◌+◌, ◌*◌, ◌≤◌, ◌<◌}
+use Rattle.std.specs.Prelude.{◌≡◌, true, ℕ, ◌+◌, ◌*◌, ◌≤◌, ◌<◌}
 use Rattle.basics.specs.Sum.{sum, bit}
 use Rattle.model.specs.Model.{Model, Map}
 use Rattle.model.specs.Windows.{window}

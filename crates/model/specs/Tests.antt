@@ -1,5 +1,5 @@
 -- For the proofs alone: the same as tests that compute, a sound model and a valid schedule; and a model from three lists.
-use Rattle.std.specs.Prelude.{Bool, true, false, not, ◌&&◌, ◌||◌, List, ℕ, ◌+◌, ◌*◌, leb, ltb, eqb, length, get_or}
+use Rattle.std.specs.Prelude.{Bool, not, ◌&&◌, ◌||◌, List, ℕ, ◌+◌, ◌*◌, leb, ltb, eqb, length, get_or}
 use Rattle.basics.specs.Sum.{sum, bit, all}
 use Rattle.model.specs.Model.{Model, Map}
 use Rattle.model.specs.Windows.{window}

@@ -1,5 +1,5 @@
 -- Jobs and their windows.
-use Rattle.std.specs.Prelude.{Bool, ℕ, ◌/◌, ◌%◌, ltb}
+use Rattle.std.specs.Prelude.{ℕ, ◌/◌, ◌%◌, ltb}
 use Rattle.model.specs.Model.{Model, Map}
 
 -- "Job k of a row is released at k times T and its window is the D slots from there": the number k of the job that slot t could be in

@@ -1,5 +1,6 @@
 // A refusal. It is made here and nowhere else.
 #![tactic(auto)]
+
 ghost use Rattle.std.specs.Prelude.{◌≡◌};
 ghost use Rattle.refusal.specs.Refusal.{in_row, refuse, none as noRefusal, in_entry};
 

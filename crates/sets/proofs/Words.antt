@@ -1,9 +1,9 @@
 -- Words of any width: the word of a test, a row's bit in it, and a bit put.
 use mathlib.Core.Path.{◌≡◌, refl, sym, ap, ap₂, subst, ◌∙◌}
 use mathlib.Core.Bool.{Bool, true, false, cond}
-use mathlib.Core.Logic.{◌⊎◌, inl, inr, ⊎_elim}
+use mathlib.Core.Logic.{⊎_elim}
 use Prim.Native.Nat.{ℕ, zero, suc, ◌+◌, ◌-◌, ◌*◌, ◌/◌, ◌%◌, ◌^◌, ◌≤◌, ◌<◌}
-use native.Mathlib.Nat.{le_refl, le_trans, le_of_suc-le-suc, not-suc-le-zero, eq-or-lt_of_le, mul-add-mod_self_right, mul_assoc, mul-le-mul_right, pow-suc, add_comm, zero-mul, one-mul, mod-lt, mod-le, mod-eq_of_lt, div-eq_of_lt, div-mul-le_self, div-add-mod', div-lt_iff_lt-mul}
+use native.Mathlib.Nat.{le_trans, le_of_suc-le-suc, not-suc-le-zero, eq-or-lt_of_le, mul-add-mod_self_right, mul_assoc, mul-le-mul_right, pow-suc, add_comm, zero-mul, mod-lt, mod-le, mod-eq_of_lt, div-eq_of_lt, div-mul-le_self, div-add-mod', div-lt_iff_lt-mul}
 use native.Mathlib.Omega.{arith}
 use lib.Dec.{eqb}
 use borrow.Author.Tests.{eq-eqb, ne_eqb}

@@ -1,5 +1,5 @@
 -- "Each slot's set of rows is one 32-bit word, bit i for row i, and the size of a set is its count of ones."
-use Rattle.std.specs.Prelude.{Bool, true, false, cond, ℕ, zero, suc, ◌+◌, ◌-◌, ◌*◌, ◌/◌, ◌%◌, ◌^◌, leb, ltb, eqb}
+use Rattle.std.specs.Prelude.{Bool, true, cond, ℕ, zero, suc, ◌+◌, ◌-◌, ◌*◌, ◌/◌, ◌%◌, ◌^◌, leb, ltb, eqb}
 use Rattle.std.specs.Int.Count.{ones}
 use Rattle.basics.specs.Sum.{bit}
 use Rattle.model.specs.Model.{Model, Map}

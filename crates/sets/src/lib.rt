@@ -1,5 +1,6 @@
 // Sets of rows as words, one bit for each row. Every function answers for every word and every row number.
 #![tactic(auto)]
+
 ghost use Rattle.std.specs.Prelude.{◌≡◌, Bool, true, false, ℕ, ◌+◌, ◌*◌, ◌^◌, ◌≤◌, ◌<◌};
 ghost use Rattle.std.specs.Int.Count.{ones};
 ghost use Rattle.basics.specs.Sum.{bit};

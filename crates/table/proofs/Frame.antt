@@ -1,12 +1,9 @@
 -- The frame is the least common multiple of the periods: each divides it, and it divides every common multiple.
-use mathlib.Core.Path.{◌≡◌, refl, sym, ap, ◌∙◌}
-use mathlib.Core.Bool.{Bool, true, false}
+use mathlib.Core.Path.{◌≡◌, refl}
 use mathlib.Core.Logic.{⊎_elim}
-use Prim.Native.Nat.{ℕ, zero, suc, ◌≤◌, ◌<◌, ◌∣◌}
-use native.Mathlib.Nat.{dvd_trans, one-dvd, le_of_dvd, eq-or-lt_of_le, le_of_suc-le-suc, not-suc-le-zero}
-use native.Mathlib.Numerals.{add-one}
+use Prim.Native.Nat.{ℕ, zero, suc, ◌<◌, ◌∣◌}
+use native.Mathlib.Nat.{dvd_trans, one-dvd, eq-or-lt_of_le, le_of_suc-le-suc, not-suc-le-zero}
 use native.Mathlib.Omega.{arith}
-use lib.Dec.{ltb}
 use Rattle.table_row.specs.Divisor.{multiple}
 use Rattle.table_row.proofs.Divisor.{multiple_dvd_left, multiple_dvd_right, multiple_least, multiple_pos}
 use Rattle.table.specs.Frame.{frame_of}

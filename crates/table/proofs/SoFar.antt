@@ -1,23 +1,21 @@
 -- What is seen after i rows, and that what it comes to at the end is the check of those rows: once for a table's rows and a list's.
 use mathlib.Core.Path.{◌≡◌, refl, sym, ap, ap₂, subst, ◌∙◌}
-use mathlib.Core.Bool.{Bool, true, false, not, cond, ◌&&◌}
+use mathlib.Core.Bool.{Bool, true, false, cond}
 use mathlib.Core.Logic.{◌⊎◌, inl, inr, ⊎_elim}
 use Prim.Native.Nat.{ℕ, suc, ◌+◌, ◌≤◌, ◌<◌}
 use native.Mathlib.Numerals.{add-one}
 use native.Mathlib.Omega.{arith}
-use lib.Dec.{leb, ltb, eqb}
+use lib.Dec.{eqb}
 use borrow.Author.Count.{below_none, below_more}
 use borrow.Author.Tests.{lt-ltb, le-ltb, le-leb, lt-leb, eq-eqb, ne_eqb, eqb-true, eqb-false, not-true, not-false}
 use Rattle.basics.proofs.Bools.{lt_or_ge, test}
 use Rattle.table_row.specs.declared.Row.{Row}
 use Rattle.table.specs.declared.Beside.{Beside}
 use Rattle.table.specs.declared.Seen.{Seen}
-use Rattle.table.specs.declared.Checked.TheVariants.{Frame}
-use Rattle.basics.specs.Least.{least}
 use Rattle.table_row.specs.Divisor.{multiple}
 use Rattle.table.specs.Frame.{frame_of}
 use Rattle.table_row.specs.Row.{row_refusal, faulty}
-use Rattle.table.specs.Check.{Numbers, numbers, refused, check_frame, check_each, check_rows}
+use Rattle.table.specs.Check.{check_each, check_rows}
 use Rattle.basics.specs.Range.{inside}
 use Rattle.basics.proofs.Range.{inside_of, inside_not}
 use Rattle.table.specs.Seen.{none_seen, one_more, counted, faulted, taken, step_of, seen_each, ranges, finish_of}

@@ -1,16 +1,15 @@
 -- How the code comes to each answer of the check.
-use mathlib.Core.Path.{◌≡◌, refl, sym, ap, ◌∙◌}
-use mathlib.Core.Bool.{Bool, true, false, not, cond}
+use mathlib.Core.Path.{◌≡◌}
+use mathlib.Core.Bool.{true, false}
 use Prim.Native.Nat.{ℕ, suc, ◌≤◌, ◌<◌}
 use native.Mathlib.Nat.{le_refl}
 use native.Mathlib.Omega.{arith}
-use lib.Dec.{leb, ltb, eqb}
+use lib.Dec.{ltb}
 use borrow.Author.Tests.{lt-ltb, le-ltb}
 use Rattle.table_row.specs.declared.Row.{Row}
 use Rattle.table.specs.declared.Beside.{Beside}
 use Rattle.table_row.specs.Limits.{most_processors, most_depths, most_rows, most_slots}
-use Rattle.table.specs.declared.Checked.{Checked}
-use Rattle.table.specs.declared.Checked.TheVariants.{Frame, Refused}
+use Rattle.table.specs.declared.Checked.TheVariants.{Frame}
 use Rattle.basics.specs.Least.{least}
 use Rattle.table.specs.Frame.{frame_of, over_at}
 use Rattle.table_row.specs.Row.{row_refusal, faulty}

@@ -1,5 +1,5 @@
 -- The check of a table: "Order for a table: 1, 2, 3, then rows upward, in each 4, 5, 6; then 7."
-use Rattle.std.specs.Prelude.{Bool, not, cond, ℕ, ltb, eqb}
+use Rattle.std.specs.Prelude.{cond, ℕ, ltb}
 use Rattle.table_row.specs.declared.Row.{Row}
 use Rattle.table.specs.declared.Table.{Table}
 use Rattle.table.specs.declared.Beside.{Beside}
@@ -10,7 +10,7 @@ use Rattle.basics.specs.Least.{least}
 use Rattle.basics.specs.Range.{inside}
 use Rattle.refusal.specs.Refusal.{in_row, none}
 use Rattle.table_row.specs.Row.{row_refusal, faulty}
-use Rattle.table_row.specs.Limits.{most_processors, most_depths, most_rows, most_slots}
+use Rattle.table_row.specs.Limits.{most_processors, most_depths, most_rows}
 use Rattle.table.specs.Frame.{frame_of, over_at}
 use Rattle.table.specs.Rows.{row_at, beside_of}
 

@@ -1,5 +1,6 @@
 // A table of tasks and its check.
 #![tactic(auto)]
+
 ghost use Rattle.std.specs.Prelude.{◌≡◌};
 ghost use Rattle.table.specs.Rows.{no_rows, beside_of, no_table};
 ghost use Rattle.table.specs.Check.{numbers, refused as refusedAs, check_of, table_refusal};

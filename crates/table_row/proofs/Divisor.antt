@@ -1,7 +1,7 @@
 -- Euclid's rule gives a common divisor that every common divisor divides; the multiple is the least common one.
-use mathlib.Core.Path.{◌≡◌, refl, sym, ap, ◌∙◌}
-use Prim.Native.Nat.{ℕ, zero, suc, ◌+◌, ◌*◌, ◌-◌, ◌%◌, ◌/◌, ◌≤◌, ◌<◌, zero-le, ◌∣◌}
-use native.Mathlib.Nat.{le_refl, le_trans, le_of_suc-le-suc, not-suc-le-zero, mod-lt, zero-lt-suc, dvd_refl, dvd-zero, dvd_trans, dvd-mod_iff, dvd-sub, dvd-mul_left, dvd-mul_right, dvd-mul_right_of_dvd, mul-dvd-mul_left, mul-dvd-mul_right, dvd_of_mul-dvd-mul_right, pos_of_dvd_of_pos, le_of_dvd, div-mul_cancel, mod-eq-sub-mul-div, mul-sub, mul_assoc, mul_comm, mul_right_comm, mul-pos, zero-mul, pos_of_ne-zero}
+use mathlib.Core.Path.{◌≡◌, refl, ap, ◌∙◌}
+use Prim.Native.Nat.{ℕ, zero, suc, ◌*◌, ◌%◌, ◌/◌, ◌≤◌, ◌<◌, ◌∣◌}
+use native.Mathlib.Nat.{le_refl, le_trans, le_of_suc-le-suc, not-suc-le-zero, mod-lt, zero-lt-suc, dvd_refl, dvd-zero, dvd-mod_iff, dvd-sub, dvd-mul_left, dvd-mul_right_of_dvd, mul-dvd-mul_left, mul-dvd-mul_right, dvd_of_mul-dvd-mul_right, pos_of_dvd_of_pos, div-mul_cancel, mod-eq-sub-mul-div, mul-sub, mul_assoc, mul_comm, mul_right_comm, mul-pos, zero-mul, pos_of_ne-zero}
 use native.Mathlib.Omega.{arith}
 use Rattle.table_row.specs.Divisor.{divisor_in, divisor, multiple}
 

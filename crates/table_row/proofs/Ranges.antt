@@ -1,11 +1,9 @@
 -- What a row that is in order is.
-use mathlib.Core.Path.{◌≡◌, refl, sym, ap, ◌∙◌}
-use mathlib.Core.Bool.{Bool, true, false, cond, ◌&&◌}
+use mathlib.Core.Path.{◌≡◌, refl}
+use mathlib.Core.Bool.{Bool, true, false, cond}
 use Prim.Native.Nat.{ℕ, ◌≤◌, ◌<◌}
 use native.Mathlib.Omega.{arith}
-use lib.Dec.{leb, eqb}
-use borrow.Author.Tests.{leb-true, eqb-true, not-false}
-use Rattle.basics.proofs.Bools.{and_left, and_right}
+use borrow.Author.Tests.{eqb-true, not-false}
 use Rattle.table_row.specs.declared.Row.{Row}
 use Rattle.basics.specs.Least.{least}
 use Rattle.table_row.specs.Row.{row_refusal, faulty}

@@ -1,5 +1,6 @@
 // A row of a table and its own check; the limits, and the multiple of periods.
 #![tactic(auto)]
+
 ghost use Rattle.std.specs.Prelude.{◌≡◌};
 ghost use Rattle.table_row.specs.Row.{no_row, row_refusal};
 

@@ -1,5 +1,6 @@
 // The ten marked tables as one constant, each with the answer that the rules give.
 #![tactic(auto)]
+
 ghost use Rattle.std.specs.Prelude.{◌≡◌, ◌≤◌};
 ghost use Rattle.try_marked.specs.Rows.{row_from, table_from};
 ghost use Rattle.try_marked.specs.Case.{case_table};

@@ -1,4 +1,4 @@
--- The invariant: the sum of the whole body is the sum of what is left, from a and b on.
+-- The sum of the whole body is the sum of what is left, from a and b on.
 use Rattle.std.proofs.Common.{ℕ, ◌+◌, ◌*◌, sym, ◌∙◌, ap₂, arith, rules}
 use Rattle.file_bytes.proofs.Sums.{sum_start, sum_step, sum_end}
 use Rattle.file_bytes.proofs.body_sum.Goals as goal
@@ -8,12 +8,11 @@ loop-i-init c = (omega arith, omega arith, omega arith, sum_start _)
 
 pub loop-i-preserved : goal.loop-i-preserved
 loop-i-preserved c =
-    let at = c.before.before.before.before.before in
-    let s = at.args.s.now in
-    (omega arith, omega arith, omega arith, cc (sum_step s at.loop-i.a at.loop-i.b at.loop-i.i (search rules)))
+    let l = c.loop-i in
+    (omega arith, omega arith, omega arith, cc (sum_step c.args.s.now l.a l.b l.i (search rules)))
 
 pub returns : goal.returns
 returns c =
-    let at = c.before.before.before in
+    let l = c.loop-i in
     ap₂ (λ (x y : ℕ). x + 65536 * y) c.word_of_half.ensures.same c.word_of_half-2.ensures.same
-    ∙ sym (at.loop-i.invariant.3 ∙ sum_end _ at.loop-i.a at.loop-i.b at.loop-i.i c.loop-i-test.false)
+    ∙ sym (l.invariant.3 ∙ sum_end _ l.a l.b l.i c.loop-i-test.false)

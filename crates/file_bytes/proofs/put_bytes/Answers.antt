@@ -1,4 +1,4 @@
--- The invariant: the first k bytes of the source are written over the output; where they do not all fit nothing is written.
+-- The first k bytes of the source are written over the output; where they do not all fit nothing is written.
 use Rattle.std.proofs.Common.{◌+◌, take, sym, refl, ◌∙◌, add-one, arith, length-set, length-take-le, take_all, take-suc, leb-false, leb-true}
 use Rattle.file_bytes.proofs.Overs.{over_none, over_byte, over_full}
 use Rattle.file_bytes.proofs.put_bytes.Goals as goal

@@ -21,8 +21,10 @@ returns-then-r-ne0 c =
 
 pub returns-then-is_table : goal.returns-then-is_table
 returns-then-is_table c =
-    c.none.ensures ∙ find_fine _ _ (fine (goal.at.returns-then-is_table c).Else-r-ne0) (sym (has (goal.at.returns-then-is_table c).After-is_table) ∙ c.if-is_table.true)
+    let at = goal.at.returns-then-is_table c in
+    c.none.ensures ∙ find_fine _ _ (fine at.Else-r-ne0) (sym (has at.After-is_table) ∙ c.if-is_table.true)
 
 pub returns : goal.returns
 returns c =
-    c.refuse.ensures ∙ find_none _ _ (fine (goal.at.returns c).Else-r-ne0) (sym (has (goal.at.returns c).After-is_table) ∙ c.if-is_table.false)
+    let at = goal.at.returns c in
+    c.refuse.ensures ∙ find_none _ _ (fine at.Else-r-ne0) (sym (has at.After-is_table) ∙ c.if-is_table.false)

@@ -23,10 +23,12 @@ returns-then-body_sum-sum_at c =
 
 pub returns-then-is_table : goal.returns-then-is_table
 returns-then-is_table c =
+    let at = goal.at.returns-then-is_table c in
     c.body_refusal.ensures
     ∙ ap body_refusal c.body-b.ensures
-    ∙ part_table _ _ (sum_fine (goal.at.returns-then-is_table c).Else-body_sum-sum_at) (sym (kind_is (goal.at.returns-then-is_table c).After-is_table) ∙ c.if-is_table.true)
+    ∙ part_table _ _ (sum_fine at.Else-body_sum-sum_at) (sym (kind_is at.After-is_table) ∙ c.if-is_table.true)
 
 pub returns : goal.returns
 returns c =
-    c.none.ensures ∙ part_note _ _ (sum_fine (goal.at.returns c).Else-body_sum-sum_at) (sym (kind_is (goal.at.returns c).After-is_table) ∙ c.if-is_table.false)
+    let at = goal.at.returns c in
+    c.none.ensures ∙ part_note _ _ (sum_fine at.Else-body_sum-sum_at) (sym (kind_is at.After-is_table) ∙ c.if-is_table.false)

@@ -11,17 +11,13 @@ use Rattle.file_write.proofs.write_file.Goals as goal
 
 pub returns : goal.returns
 returns c =
-    let c₃ = c.before.before.before.before in
-    let c₂ = c₃.before.before.before.before in
-    let c₁ = c₂.before.before.before.before in
-    let start = c₁.before.before.before.before.before.before.before.before in
-    let room = start.requires.room in
-    let a = start.args in
+    let room = c.requires.room in
+    let a = c.args in
     let o = a.out.now in
     let n = length a.sources.now in
     let new = entry_by a.kind a.number a.b.now in
     let l = length_heads_by a.s.now new (after_entries n) a.sources.now in
-    let p₂ = next_over o _ _ 0 2 _ _ c₁.put16.ensures c₂.put16-2.ensures (omega arith) (omega arith) in
-    let p₃ = next_over o _ _ 0 head_bytes _ _ p₂ c₃.write_heads.ensures (omega arith) (omega arith) in
+    let p₂ = next_over o _ _ 0 2 _ _ c.put16.ensures c.put16-2.ensures (omega arith) (omega arith) in
+    let p₃ = next_over o _ _ 0 head_bytes _ _ p₂ c.write_heads.ensures (omega arith) (omega arith) in
     let p₄ = next_over o _ _ 0 (after_entries n) _ _ p₃ c.write_bodies.ensures (omega arith) (omega arith) in
     p₄ ∙ ap (over o 0) (file_parts a.s.now new a.sources.now)

@@ -17,9 +17,8 @@ overflow_cast-p c = omega (arith, ap length c.source_body-p.ensures)
 
 pub returns : goal.returns
 returns c =
-    let p = c.before.before.before in
-    let b = p.source_body-p.ensures in
-    let a = p.args in
+    let b = c.source_body-p.ensures in
+    let a = c.args in
     c.put_head.ensures
-    ∙ (λ k. over a.out.now (p.after_entries-at.ensures.same k) (head_by (p.source_kind-own_kind.ensures k) (p.source_number-own_number.ensures k) a.start (length (b k)) ((p.body_sum-sum.ensures ∙ ap sum_of b) k)))
+    ∙ (λ k. over a.out.now (c.after_entries-at.ensures.same k) (head_by (c.source_kind-own_kind.ensures k) (c.source_number-own_number.ensures k) a.start (length (b k)) ((c.body_sum-sum.ensures ∙ ap sum_of b) k)))
     ∙ ap (over a.out.now (after_entries a.j)) (head_by_lem a.s.now a.kind a.number a.b.now a.source a.start)

@@ -1,7 +1,4 @@
 -- Refused, or the verdict of the line at the frame.
-use mathlib.Core.Path.{sym, ap, ◌∙◌}
-use borrow.Author.Rules.{rules}
-use Rattle.table.specs.Check.{numbers}
 use Rattle.judge_admit.proofs.Admitted.{admitted}
 use Rattle.judge.proofs.Answers.{judged_refused, judged_given}
 use Rattle.judge.proofs.judge.Goals as goal

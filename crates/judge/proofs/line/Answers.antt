@@ -1,6 +1,5 @@
 -- The first map, the depths, and the scan, each from what the one before left.
 use native.Mathlib.Omega.{arith}
-use borrow.Author.Rules.{rules}
 use Rattle.basics.proofs.Overs.{holds_of, over_then}
 use Rattle.judge.proofs.line.Goals as goal
 

@@ -1,5 +1,4 @@
 -- By the two tests, of which either alone refuses.
-use borrow.Author.Rules.{rules}
 use native.Mathlib.Omega.{arith}
 use Prim.Native.Nat.{◌≤◌, ◌<◌}
 use lib.Dec.{ltb}

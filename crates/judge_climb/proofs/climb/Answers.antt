@@ -1,12 +1,8 @@
 -- Depth after depth, until the last or one that changed nothing: the lists are at that depth, and the lines up to it stand.
 use mathlib.Core.Path.{refl}
-use Prim.Native.Nat.{◌-◌}
 use native.Mathlib.Omega.{arith}
-use borrow.Author.Rules.{rules}
-use borrow.Author.Tests.{not-true}
 use Rattle.judge_deepen.proofs.Depth.{reached_then}
-use Rattle.judge_climb.proofs.Climbing.{Climbing, climbing_first, further_room, climbing_more, climbing_stop, climbing_all}
-use Rattle.table_row.specs.Limits.{most_depths}
+use Rattle.judge_climb.proofs.Climbing.{climbing_first, further_room, climbing_more, climbing_stop, climbing_all}
 use Rattle.judge_climb.proofs.climb.Goals as goal
 
 pub first-requires : goal.first-requires

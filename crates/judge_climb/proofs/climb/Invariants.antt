@@ -1,11 +1,6 @@
 -- What the loop keeps.
-use mathlib.Core.Path.{refl}
 use Prim.Native.Nat.{◌-◌}
-use native.Mathlib.Omega.{arith}
-use borrow.Author.Rules.{rules}
-use borrow.Author.Tests.{not-true}
-use Rattle.judge_deepen.proofs.Depth.{reached_then}
-use Rattle.judge_climb.proofs.Climbing.{Climbing, climbing_first, further_room, climbing_more, climbing_stop, climbing_all}
+use Rattle.judge_climb.proofs.Climbing.{Climbing}
 use Rattle.table_row.specs.Limits.{most_depths}
 use Rattle.judge_climb.proofs.climb.Given as goal
 

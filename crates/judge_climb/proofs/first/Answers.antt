@@ -1,5 +1,4 @@
 -- The first map and no pins are depth 1, and the map is measured.
-use borrow.Author.Rules.{rules}
 use Rattle.basics.proofs.Overs.{holds_of}
 use Rattle.judge_deepen.proofs.Depth.{reached_first}
 use Rattle.judge_climb.proofs.first.Goals as goal

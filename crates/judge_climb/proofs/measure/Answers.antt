@@ -1,7 +1,6 @@
 -- The numbers of the line that the scan finds.
 use mathlib.Core.Path.{ap, ◌∙◌}
 use Rattle.judge_climb.specs.Core.{three}
-use borrow.Author.Rules.{rules}
 use Rattle.judge_climb.proofs.measure.Goals as goal
 
 pub returns : goal.returns

@@ -1,10 +1,6 @@
 -- Line after line is the last one that was worked out.
 use mathlib.Core.Path.{◌≡◌, refl}
 use native.Mathlib.Omega.{arith}
-use mathlib.Core.List.{[]}
-use Prim.Native.Nat.{◌-◌, ◌≤◌}
-use lib.ListN.{get_or}
-use Rattle.judge_climb.specs.Core.{Repeated}
 use Rattle.judge_climb.proofs.Squares.{repeated_more}
 use Rattle.table_row.specs.Limits.{most_depths}
 use Rattle.judge_climb.proofs.repeated.Goals as goal

@@ -1,6 +1,6 @@
 -- Each turn goes one depth further; where that changed nothing, the lists are those of the table's depth already.
 use mathlib.Core.Path.{◌≡◌, ◌∙◌}
-use Prim.Native.Nat.{◌+◌, ◌-◌, ◌≤◌, ◌<◌}
+use Prim.Native.Nat.{◌+◌, ◌<◌}
 use native.Mathlib.Omega.{arith}
 use Rattle.basics.specs.Over.{Holds}
 use Rattle.basics.proofs.Overs.{over_held, holds_of}

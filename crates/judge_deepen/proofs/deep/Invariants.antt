@@ -1,15 +1,7 @@
 -- The lists as of the depth that is reached.
-use mathlib.Core.Path.{◌≡◌, ◌∙◌}
-use Prim.Native.Nat.{◌+◌, ◌-◌, ◌≤◌, ◌<◌}
-use native.Mathlib.Omega.{arith}
-use Rattle.basics.specs.Over.{Holds}
-use Rattle.basics.proofs.Overs.{over_held, holds_of}
-use Rattle.model.specs.Depths.{available}
-use Rattle.sets.specs.Word.{words}
+use Prim.Native.Nat.{◌-◌, ◌≤◌}
 use Rattle.table.specs.Meaning.{model_of}
-use Rattle.table.proofs.Accepted.{sound_model, divides_mod}
 use Rattle.judge_deepen.specs.Reached.{Reached}
-use Rattle.judge_deepen.proofs.Depth.{depth_step, depth_stop, reached_first, reached_then}
 use Rattle.judge_deepen.proofs.deep.Given as goal
 
 abbrev pub invariant-loop-y : goal.invariant-loop-y

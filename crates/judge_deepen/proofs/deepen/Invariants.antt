@@ -1,16 +1,13 @@
 -- What the loop keeps.
-use mathlib.Core.Path.{◌≡◌, refl, ◌∙◌}
-use Prim.Native.Nat.{◌-◌, ◌≤◌, ◌<◌}
-use native.Mathlib.Omega.{arith}
+use mathlib.Core.Path.{◌≡◌}
+use Prim.Native.Nat.{◌-◌, ◌≤◌}
 use lib.ListN.{length}
 use Rattle.basics.specs.Over.{Holds}
 use Rattle.model.specs.Model.{Map}
 use Rattle.sets.specs.Word.{words}
 use Rattle.table.specs.Meaning.{model_of}
-use Rattle.table.proofs.Accepted.{sound_model, divides_mod}
-use Rattle.judge_first.proofs.Sequential.{Sequential, sequential}
 use Rattle.judge_deepen.specs.Step.{Shrinking}
-use Rattle.judge_deepen.proofs.Pass.{Passed, pass_step, first_pass, last_pass}
+use Rattle.judge_deepen.proofs.Pass.{Passed}
 use Rattle.judge_deepen.proofs.deepen.Given as goal
 
 abbrev pub invariant-loop-i : goal.invariant-loop-i

@@ -1,11 +1,8 @@
 -- What the loop keeps.
-use mathlib.Core.Path.{◌≡◌}
 use Prim.Native.Nat.{◌-◌, ◌≤◌}
-use native.Mathlib.Omega.{arith}
 use lib.ListN.{get_or}
 use Rattle.sets.specs.Word.{up_to}
 use Rattle.basics.specs.Over.{Over}
-use Rattle.basics.proofs.Overs.{over_none, over_more}
 use Rattle.judge_deepen.proofs.few_enough.Given as goal
 
 abbrev pub invariant-loop-s : goal.invariant-loop-s

@@ -1,10 +1,7 @@
 -- Row after row, its numbers are put at their places.
 use mathlib.Core.Path.{◌≡◌}
-use Prim.Native.Nat.{◌-◌, ◌≤◌}
 use native.Mathlib.Omega.{arith}
-use Rattle.basics.specs.Over.{Over}
 use Rattle.basics.proofs.Overs.{over_none, over_more}
-use Rattle.table.specs.Rows.{row_at}
 use Rattle.judge_first.proofs.columns.Goals as goal
 
 pub loop-i-init : goal.loop-i-init

@@ -1,9 +1,6 @@
 -- What the loop keeps.
-use mathlib.Core.Path.{◌≡◌}
 use Prim.Native.Nat.{◌-◌, ◌≤◌}
-use native.Mathlib.Omega.{arith}
 use Rattle.basics.specs.Over.{Over}
-use Rattle.basics.proofs.Overs.{over_none, over_more}
 use Rattle.table.specs.Rows.{row_at}
 use Rattle.judge_first.proofs.columns.Given as goal
 

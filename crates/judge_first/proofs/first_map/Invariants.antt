@@ -1,14 +1,8 @@
 -- What the loop keeps.
-use mathlib.Core.Path.{◌≡◌}
 use Prim.Native.Nat.{◌-◌, ◌≤◌}
-use native.Mathlib.Omega.{arith}
-use Rattle.model.specs.Depths.{available}
 use Rattle.sets.specs.Word.{word}
 use Rattle.basics.specs.Over.{Over}
-use Rattle.basics.proofs.Overs.{over_none, over_more, over_ext}
 use Rattle.judge_first.specs.Columns.{in_windows}
-use Rattle.judge_first.proofs.Casts.{slot_word}
-use Rattle.judge_first.proofs.Listed.{periods_some, windows_are}
 use Rattle.judge_first.proofs.first_map.Given as goal
 
 abbrev pub invariant-loop-s : goal.invariant-loop-s

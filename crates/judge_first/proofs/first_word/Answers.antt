@@ -1,9 +1,8 @@
 -- Each turn gives the word of one row more.
 use mathlib.Core.Path.{◌≡◌, sym, ◌∙◌}
-use Prim.Native.Nat.{◌-◌, ◌≤◌, ◌<◌}
+use Prim.Native.Nat.{◌<◌}
 use native.Mathlib.Omega.{arith}
-use Rattle.sets.specs.Word.{width, word}
-use Rattle.judge_first.specs.Columns.{in_windows}
+use Rattle.sets.specs.Word.{width}
 use Rattle.judge_first.proofs.Next.{word_zero, word_next}
 use Rattle.judge_first.proofs.first_word.Goals as goal
 

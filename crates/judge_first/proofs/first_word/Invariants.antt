@@ -1,10 +1,8 @@
 -- What the loop keeps.
-use mathlib.Core.Path.{◌≡◌, sym, ◌∙◌}
-use Prim.Native.Nat.{◌-◌, ◌≤◌, ◌<◌}
-use native.Mathlib.Omega.{arith}
-use Rattle.sets.specs.Word.{width, word}
+use mathlib.Core.Path.{◌≡◌}
+use Prim.Native.Nat.{◌-◌, ◌≤◌}
+use Rattle.sets.specs.Word.{word}
 use Rattle.judge_first.specs.Columns.{in_windows}
-use Rattle.judge_first.proofs.Next.{word_zero, word_next}
 use Rattle.judge_first.proofs.first_word.Given as goal
 
 abbrev pub invariant-loop-i : goal.invariant-loop-i

@@ -1,8 +1,8 @@
 -- Each turn counts one slot more.
 use mathlib.Core.Path.{◌≡◌, sym, ap₂, ◌∙◌}
-use Prim.Native.Nat.{◌+◌, ◌-◌, ◌≤◌}
+use Prim.Native.Nat.{◌+◌, ◌≤◌}
 use native.Mathlib.Omega.{arith}
-use Rattle.judge_jobs.specs.First.{in_slot, tally}
+use Rattle.judge_jobs.specs.First.{in_slot}
 use Rattle.judge_jobs.proofs.Tally.{bit_small, tally_zero, tally_more}
 use Rattle.judge_jobs.proofs.count.Goals as goal
 

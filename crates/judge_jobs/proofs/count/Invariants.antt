@@ -1,9 +1,7 @@
 -- What the loop keeps.
-use mathlib.Core.Path.{◌≡◌, sym, ap₂, ◌∙◌}
-use Prim.Native.Nat.{◌+◌, ◌-◌, ◌≤◌}
-use native.Mathlib.Omega.{arith}
+use mathlib.Core.Path.{◌≡◌}
+use Prim.Native.Nat.{◌-◌, ◌≤◌}
 use Rattle.judge_jobs.specs.First.{in_slot, tally}
-use Rattle.judge_jobs.proofs.Tally.{bit_small, tally_zero, tally_more}
 use Rattle.judge_jobs.proofs.count.Given as goal
 
 abbrev pub invariant-loop-o : goal.invariant-loop-o

@@ -1,8 +1,8 @@
 -- Slot after slot, until c of them have the row; the window has that many.
-use mathlib.Core.Path.{◌≡◌, sym}
-use Prim.Native.Nat.{◌+◌, ◌-◌, ◌≤◌, ◌<◌}
+use mathlib.Core.Path.{sym}
+use Prim.Native.Nat.{◌+◌, ◌≤◌, ◌<◌}
 use native.Mathlib.Omega.{arith}
-use Rattle.judge_jobs.specs.First.{in_slot, tally}
+use Rattle.judge_jobs.specs.First.{in_slot}
 use Rattle.judge_jobs.proofs.Tally.{bit_small, tally_zero, tally_more, tally_short}
 use Rattle.judge_jobs.proofs.reach.Goals.{After-bit_of-got, In-loop-got}
 use Rattle.judge_jobs.proofs.reach.Goals as goal

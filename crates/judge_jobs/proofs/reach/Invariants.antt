@@ -1,9 +1,7 @@
 -- What the loop keeps.
-use mathlib.Core.Path.{◌≡◌, sym}
-use Prim.Native.Nat.{◌+◌, ◌-◌, ◌≤◌, ◌<◌}
-use native.Mathlib.Omega.{arith}
+use mathlib.Core.Path.{◌≡◌}
+use Prim.Native.Nat.{◌-◌, ◌≤◌}
 use Rattle.judge_jobs.specs.First.{in_slot, tally}
-use Rattle.judge_jobs.proofs.Tally.{bit_small, tally_zero, tally_more, tally_short}
 use Rattle.judge_jobs.proofs.reach.Given as goal
 
 abbrev pub invariant-loop-got : goal.invariant-loop-got

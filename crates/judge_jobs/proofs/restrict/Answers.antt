@@ -1,13 +1,9 @@
 -- Each turn stores the set of one slot more, and tells if it is another.
 use mathlib.Core.Path.{◌≡◌, ap, ◌∙◌}
-use Prim.Native.Nat.{◌-◌, ◌≤◌}
 use native.Mathlib.Omega.{arith}
 use lib.ListN.{get_or}
 use Rattle.sets.specs.Word.{member, put}
-use Rattle.basics.specs.Over.{Over}
 use Rattle.basics.proofs.Overs.{over_none, over_more}
-use Rattle.judge_jobs.specs.First.{in_slot}
-use Rattle.judge_jobs.specs.Passes.{putting, Noticed}
 use Rattle.judge_jobs.proofs.Noticed.{noticed_none, noticed_more}
 use Rattle.judge_jobs.proofs.restrict.Goals as goal
 

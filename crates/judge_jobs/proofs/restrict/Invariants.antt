@@ -1,14 +1,8 @@
 -- What the loop keeps.
-use mathlib.Core.Path.{◌≡◌, ap, ◌∙◌}
 use Prim.Native.Nat.{◌-◌, ◌≤◌}
-use native.Mathlib.Omega.{arith}
-use lib.ListN.{get_or}
-use Rattle.sets.specs.Word.{member, put}
 use Rattle.basics.specs.Over.{Over}
-use Rattle.basics.proofs.Overs.{over_none, over_more}
 use Rattle.judge_jobs.specs.First.{in_slot}
 use Rattle.judge_jobs.specs.Passes.{putting, Noticed}
-use Rattle.judge_jobs.proofs.Noticed.{noticed_none, noticed_more}
 use Rattle.judge_jobs.proofs.restrict.Given as goal
 
 abbrev pub invariant-loop-s : goal.invariant-loop-s

@@ -1,14 +1,11 @@
 -- Each turn takes one job more, from a release to the next.
 use mathlib.Core.Path.{◌≡◌, ◌∙◌}
-use Prim.Native.Nat.{ℕ, ◌+◌, ◌-◌, ◌%◌, ◌≤◌}
+use Prim.Native.Nat.{◌+◌, ◌≤◌}
 use native.Mathlib.Nat.{add-mod_right, zero-mod}
 use native.Mathlib.Omega.{arith}
 use Rattle.basics.proofs.Overs.{over_none}
-use Rattle.table_row.specs.declared.Row.{Row}
-use Rattle.judge_jobs.specs.Passes.{RowDone}
 use Rattle.judge_jobs.proofs.Noticed.{noticed_none}
 use Rattle.judge_jobs.proofs.Row.{release_fits, row_step}
-use Rattle.judge_jobs.proofs.row_pass.Invariants.{read}
 use Rattle.judge_jobs.proofs.row_pass.Goals.{In-loop-from}
 use Rattle.judge_jobs.proofs.row_pass.Goals as goal
 

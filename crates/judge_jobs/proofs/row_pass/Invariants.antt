@@ -1,13 +1,8 @@
 -- What the loop keeps.
-use mathlib.Core.Path.{◌≡◌, ◌∙◌}
-use Prim.Native.Nat.{ℕ, ◌+◌, ◌-◌, ◌%◌, ◌≤◌}
-use native.Mathlib.Nat.{add-mod_right, zero-mod}
-use native.Mathlib.Omega.{arith}
-use Rattle.basics.proofs.Overs.{over_none}
+use mathlib.Core.Path.{◌≡◌}
+use Prim.Native.Nat.{ℕ, ◌-◌, ◌%◌, ◌≤◌}
 use Rattle.table_row.specs.declared.Row.{Row}
 use Rattle.judge_jobs.specs.Passes.{RowDone}
-use Rattle.judge_jobs.proofs.Noticed.{noticed_none}
-use Rattle.judge_jobs.proofs.Row.{release_fits, row_step}
 use Rattle.judge_jobs.proofs.row_pass.Given as goal
 
 -- the row, from its numbers as the loop has them

@@ -1,12 +1,9 @@
 -- Each turn takes the row out of one slot more.
 use mathlib.Core.Path.{◌≡◌, ap, ◌∙◌}
 use mathlib.Core.Bool.{false}
-use Prim.Native.Nat.{◌-◌, ◌≤◌}
 use native.Mathlib.Omega.{arith}
 use Rattle.sets.specs.Word.{put}
-use Rattle.basics.specs.Over.{Over}
 use Rattle.basics.proofs.Overs.{over_none, over_more}
-use Rattle.judge_jobs.specs.Passes.{putting}
 use Rattle.judge_jobs.proofs.take_out.Goals as goal
 
 pub loop-s-init : goal.loop-s-init

@@ -1,11 +1,7 @@
 -- What the loop keeps.
-use mathlib.Core.Path.{◌≡◌, ap, ◌∙◌}
 use mathlib.Core.Bool.{false}
 use Prim.Native.Nat.{◌-◌, ◌≤◌}
-use native.Mathlib.Omega.{arith}
-use Rattle.sets.specs.Word.{put}
 use Rattle.basics.specs.Over.{Over}
-use Rattle.basics.proofs.Overs.{over_none, over_more}
 use Rattle.judge_jobs.specs.Passes.{putting}
 use Rattle.judge_jobs.proofs.take_out.Given as goal
 

@@ -6,10 +6,8 @@ use lib.ListN.{get_or}
 use mathlib.Core.Bool.{false}
 use Rattle.basics.specs.Sum.{bit}
 use Rattle.sets.specs.Word.{member, put}
-use Rattle.basics.specs.Over.{Over}
 use Rattle.basics.proofs.Overs.{over_none}
 use Rattle.judge_jobs.specs.First.{in_slot, tally}
-use Rattle.judge_jobs.specs.Passes.{putting}
 use Rattle.judge_jobs.proofs.Tally.{bit_small, tally_le, tally_last}
 use Rattle.judge_jobs.proofs.Trimmed.{over_before, trimmed}
 use Rattle.judge_jobs.proofs.trim_back.Goals as goal

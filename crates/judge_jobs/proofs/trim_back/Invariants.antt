@@ -1,17 +1,10 @@
 -- What the loop keeps.
-use mathlib.Core.Path.{◌≡◌, sym, ap, ◌∙◌}
-use Prim.Native.Nat.{ℕ, ◌+◌, ◌-◌, ◌≤◌}
-use native.Mathlib.Omega.{arith}
-use lib.ListN.{get_or}
+use mathlib.Core.Path.{◌≡◌}
+use Prim.Native.Nat.{◌+◌, ◌≤◌}
 use mathlib.Core.Bool.{false}
-use Rattle.basics.specs.Sum.{bit}
-use Rattle.sets.specs.Word.{member, put}
 use Rattle.basics.specs.Over.{Over}
-use Rattle.basics.proofs.Overs.{over_none}
 use Rattle.judge_jobs.specs.First.{in_slot, tally}
 use Rattle.judge_jobs.specs.Passes.{putting}
-use Rattle.judge_jobs.proofs.Tally.{bit_small, tally_le, tally_last}
-use Rattle.judge_jobs.proofs.Trimmed.{over_before, trimmed}
 use Rattle.judge_jobs.proofs.trim_back.Given as goal
 
 abbrev pub invariant-loop-left : goal.invariant-loop-left

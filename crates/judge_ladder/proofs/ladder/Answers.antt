@@ -1,9 +1,6 @@
 -- Refused, or the square told line by line.
-use mathlib.Core.Path.{sym, ap, ◌∙◌}
-use Rattle.table.specs.Check.{numbers}
 use Rattle.judge_admit.proofs.Admitted.{admitted}
 use Rattle.judge_ladder.proofs.Answers.{laddered_refused, laddered_given}
-use borrow.Author.Rules.{rules}
 use Rattle.judge_ladder.proofs.ladder.Goals as goal
 
 pub climb-requires : goal.climb-requires

@@ -1,9 +1,7 @@
 -- Line after line is told.
 use mathlib.Core.Path.{◌≡◌, ap}
 use native.Mathlib.Omega.{arith}
-use Prim.Native.Nat.{◌-◌, ◌≤◌}
 use lib.ListN.{length}
-use Rattle.judge_climb.specs.Core.{Spelled}
 use Rattle.judge_climb.proofs.Squares.{told_more}
 use Rattle.table_row.specs.Limits.{most_depths}
 use Rattle.judge_ladder.proofs.lines.Goals as goal

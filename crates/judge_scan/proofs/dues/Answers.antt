@@ -1,8 +1,7 @@
 -- Row after row, what falls due of it is added.
 use mathlib.Core.Path.{◌≡◌}
-use Prim.Native.Nat.{◌-◌, ◌≤◌, ◌<◌}
+use Prim.Native.Nat.{◌≤◌, ◌<◌}
 use native.Mathlib.Omega.{arith}
-use Rattle.judge_scan.specs.Dues.{falling_in, Falls}
 use Rattle.judge_scan.proofs.Rows.{falls_none, falls_more, rows_low}
 use Rattle.judge_scan.proofs.dues.Goals as goal
 

@@ -1,9 +1,6 @@
 -- What the loop keeps.
-use mathlib.Core.Path.{◌≡◌}
-use Prim.Native.Nat.{◌-◌, ◌≤◌, ◌<◌}
-use native.Mathlib.Omega.{arith}
+use Prim.Native.Nat.{◌-◌, ◌≤◌}
 use Rattle.judge_scan.specs.Dues.{falling_in, Falls}
-use Rattle.judge_scan.proofs.Rows.{falls_none, falls_more, rows_low}
 use Rattle.judge_scan.proofs.dues.Given as goal
 
 abbrev pub invariant-loop-i : goal.invariant-loop-i

@@ -1,9 +1,8 @@
 -- Length after length both sums grow; the first at which the work is the greater is the answer.
 use mathlib.Core.Logic.{inl, inr}
-use Prim.Native.Nat.{◌-◌, ◌≤◌}
 use native.Mathlib.Omega.{arith}
 use Rattle.judge_first.proofs.Casts.{slot_word}
-use Rattle.judge_scan.proofs.Running.{Running, running_none, enough, running_more, fails_here, passes_all}
+use Rattle.judge_scan.proofs.Running.{running_none, enough, running_more, fails_here, passes_all}
 use Rattle.judge_scan.proofs.least.Goals as goal
 
 pub loop-k-init : goal.loop-k-init

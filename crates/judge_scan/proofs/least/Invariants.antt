@@ -1,9 +1,6 @@
 -- What the loop keeps.
-use mathlib.Core.Logic.{inl, inr}
 use Prim.Native.Nat.{◌-◌, ◌≤◌}
-use native.Mathlib.Omega.{arith}
-use Rattle.judge_first.proofs.Casts.{slot_word}
-use Rattle.judge_scan.proofs.Running.{Running, running_none, enough, running_more, fails_here, passes_all}
+use Rattle.judge_scan.proofs.Running.{Running}
 use Rattle.judge_scan.proofs.least.Given as goal
 
 abbrev pub invariant-loop-k : goal.invariant-loop-k

@@ -1,12 +1,8 @@
 -- From window's end to window's end, each slot there grows by the execution time.
-use mathlib.Core.Path.{◌≡◌, refl, ◌∙◌}
-use Prim.Native.Nat.{ℕ, ◌+◌, ◌-◌, ◌%◌, ◌<◌}
+use mathlib.Core.Path.{refl, ◌∙◌}
 use native.Mathlib.Nat.{add-mod_right}
 use native.Mathlib.Omega.{arith}
-use Rattle.table_row.specs.declared.Row.{Row}
-use Rattle.judge_scan.specs.Dues.{falling, Falls}
 use Rattle.judge_scan.proofs.Falls.{ends_first, ends_none, ends_more, ends_all}
-use Rattle.judge_scan.proofs.row_dues.Invariants.{read}
 use Rattle.judge_scan.proofs.row_dues.Goals as goal
 
 pub loop-s-init : goal.loop-s-init

@@ -1,11 +1,8 @@
 -- What the loop keeps.
-use mathlib.Core.Path.{◌≡◌, refl, ◌∙◌}
+use mathlib.Core.Path.{◌≡◌}
 use Prim.Native.Nat.{ℕ, ◌+◌, ◌-◌, ◌%◌, ◌<◌}
-use native.Mathlib.Nat.{add-mod_right}
-use native.Mathlib.Omega.{arith}
 use Rattle.table_row.specs.declared.Row.{Row}
 use Rattle.judge_scan.specs.Dues.{falling, Falls}
-use Rattle.judge_scan.proofs.Falls.{ends_first, ends_none, ends_more, ends_all}
 use Rattle.judge_scan.proofs.row_dues.Given as goal
 
 -- the row, from its numbers as the loop has them

@@ -1,5 +1,4 @@
 -- The lists of a scan have what falls due and what is usable; the least length of the lists is that of the map.
-use borrow.Author.Rules.{rules}
 use native.Mathlib.Omega.{arith}
 use Rattle.judge_scan.proofs.Answer.{zeros, dues_low, usables_low, answer}
 use Rattle.judge_scan.proofs.scan.Goals as goal

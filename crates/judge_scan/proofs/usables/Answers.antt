@@ -1,10 +1,6 @@
 -- Slot after slot, what it supplies is put at its place.
 use mathlib.Core.Path.{◌≡◌}
-use Prim.Native.Nat.{◌-◌, ◌≤◌, min}
 use native.Mathlib.Omega.{arith}
-use lib.Count.{ones}
-use lib.ListN.{get_or}
-use Rattle.basics.specs.Over.{Over}
 use Rattle.basics.proofs.Overs.{over_none, over_more}
 use Rattle.judge_scan.proofs.usables.Goals as goal
 

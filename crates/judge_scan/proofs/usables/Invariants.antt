@@ -1,11 +1,8 @@
 -- What the loop keeps.
-use mathlib.Core.Path.{◌≡◌}
 use Prim.Native.Nat.{◌-◌, ◌≤◌, min}
-use native.Mathlib.Omega.{arith}
 use lib.Count.{ones}
 use lib.ListN.{get_or}
 use Rattle.basics.specs.Over.{Over}
-use Rattle.basics.proofs.Overs.{over_none, over_more}
 use Rattle.judge_scan.proofs.usables.Given as goal
 
 abbrev pub invariant-loop-s : goal.invariant-loop-s

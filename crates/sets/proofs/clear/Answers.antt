@@ -1,9 +1,7 @@
 -- Each turn stores one zero more; past the list's end every place reads as zero.
-use mathlib.Core.Path.{◌≡◌, refl}
-use Prim.Native.Nat.{◌-◌, ◌≤◌}
+use mathlib.Core.Path.{refl}
 use native.Mathlib.Omega.{arith}
 use lib.ListN.{get_or-eq_default}
-use Rattle.basics.specs.Over.{Over}
 use Rattle.basics.proofs.Overs.{over_none, over_more, over_on}
 use Rattle.sets.proofs.clear.Goals as goal
 

@@ -1,10 +1,6 @@
 -- What the loop keeps.
-use mathlib.Core.Path.{◌≡◌, refl}
 use Prim.Native.Nat.{◌-◌, ◌≤◌}
-use native.Mathlib.Omega.{arith}
-use lib.ListN.{get_or-eq_default}
 use Rattle.basics.specs.Over.{Over}
-use Rattle.basics.proofs.Overs.{over_none, over_more, over_on}
 use Rattle.sets.proofs.clear.Given as goal
 
 abbrev pub invariant-loop-s : goal.invariant-loop-s

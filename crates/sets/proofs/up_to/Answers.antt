@@ -1,7 +1,4 @@
 -- The size is the count of ones, and each return computes the definition with the test that led there.
-use mathlib.Core.Path.{sym}
-use lib.Dec.{leb}
-use borrow.Author.Rules.{rules}
 use borrow.Author.Tests.{le-leb, lt-leb}
 use Rattle.sets.specs.Word.{up_to}
 use Rattle.sets.proofs.up_to.Goals as goal

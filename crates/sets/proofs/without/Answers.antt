@@ -1,16 +1,11 @@
 -- A row past the width is not in the set; else the digit is cleared.
-use mathlib.Core.Path.{◌≡◌, refl, sym, ap, ◌∙◌}
-use mathlib.Core.Bool.{Bool, true, false}
-use Prim.Native.Nat.{ℕ, ◌^◌, ◌≤◌, ◌<◌}
+use mathlib.Core.Path.{sym}
+use Prim.Native.Nat.{◌<◌}
 use native.Mathlib.Omega.{arith}
-use lib.Dec.{ltb}
 use lib.Bits.{and_le_l}
-use borrow.Author.Tests.{lt-ltb, le-ltb}
-use Rattle.basics.specs.Sum.{bit}
-use Rattle.sets.specs.Word.{width, member, put, adding}
-use Rattle.sets.proofs.Words.{put_lt, member_high, put_high}
-use Rattle.sets.proofs.Digits.{and_one, clear_digit, move_digit, set_digit}
-use borrow.Author.Rules.{rules}
+use Rattle.sets.specs.Word.{width}
+use Rattle.sets.proofs.Words.{put_high}
+use Rattle.sets.proofs.Digits.{clear_digit}
 use Rattle.sets.proofs.without.Goals as goal
 
 pub returns-then-i-ge-WIDTH : goal.returns-then-i-ge-WIDTH

@@ -1,8 +1,7 @@
 -- The rows below the count are seen one by one; what they come to is the answer.
 use mathlib.Core.Path.{◌≡◌, refl, sym, ap, subst, ◌∙◌}
-use Prim.Native.Nat.{ℕ, ◌-◌, ◌≤◌, ◌<◌}
+use Prim.Native.Nat.{ℕ}
 use native.Mathlib.Omega.{arith}
-use borrow.Author.Rules.{rules}
 use Rattle.table.specs.declared.Seen.{Seen}
 use Rattle.table.specs.declared.Table.{Table}
 use Rattle.table.specs.Rows.{row_at, beside_of}

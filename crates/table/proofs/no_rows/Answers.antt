@@ -1,7 +1,6 @@
 -- Every row is the row of zeros.
 use mathlib.Core.Path.{ap}
 use lib.ListN.{replicate}
-use borrow.Author.Rules.{rules}
 use Rattle.table_row.specs.declared.Row.{Row}
 use Rattle.table_row.specs.Limits.{most_rows}
 use Rattle.table.proofs.no_rows.Goals as goal

@@ -1,6 +1,5 @@
 -- Zeros beside the rows, and the room with zeros in it.
 use mathlib.Core.Path.{ap}
-use borrow.Author.Rules.{rules}
 use Rattle.table.specs.Rows.{beside, table_by}
 use Rattle.table.proofs.no_table.Goals as goal
 

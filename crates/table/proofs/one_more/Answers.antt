@@ -1,5 +1,4 @@
 -- Both branches compute the definition.
-use mathlib.Core.Path.{sym}
 use borrow.Author.Rules.{rules}
 use borrow.Author.Tests.{lt-ltb, le-ltb}
 use Rattle.table.specs.Seen.{one_more}

@@ -3,7 +3,6 @@ use mathlib.Core.Path.{ap}
 use Rattle.refusal.specs.declared.Refusal.{Refusal}
 use Rattle.table.specs.declared.Checked.TheVariants.{Refused}
 use Rattle.table.specs.Check.{numbers}
-use borrow.Author.Rules.{rules}
 use Rattle.table.proofs.refused.Goals as goal
 
 pub returns : goal.returns

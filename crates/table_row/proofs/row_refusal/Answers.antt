@@ -2,7 +2,6 @@
 use mathlib.Core.Path.{◌≡◌}
 use mathlib.Core.Bool.{true}
 use native.Mathlib.Omega.{arith}
-use borrow.Author.Rules.{rules}
 use Rattle.basics.specs.Range.{inside}
 use Rattle.basics.proofs.Range.{range_failed, range_passed}
 use Rattle.table_row.specs.Limits.{most_slots}

@@ -1,5 +1,4 @@
 -- Four rows are put into the room of a table of zeros.
-use borrow.Author.Rules.{rules}
 use Rattle.try_marked.proofs.table_from.Goals as goal
 
 pub returns : goal.returns

@@ -1,13 +1,10 @@
 -- The divisor is positive, and a quotient of at most the longest frame times a period fits.
-use mathlib.Core.Path.{◌≡◌}
-use Prim.Native.Nat.{ℕ, ◌/◌, ◌≤◌, ◌<◌}
+use Prim.Native.Nat.{◌/◌, ◌≤◌}
 use native.Mathlib.Nat.{lt_of_le_of_lt, mul-le-mul, div-le_self, le_trans, le_of_suc-le-suc}
-use native.Mathlib.Omega.{arith}
 use lib.Dec.{lit<}
 use Rattle.table_row.specs.Limits.{most_slots}
-use Rattle.table_row.specs.Divisor.{divisor, multiple}
+use Rattle.table_row.specs.Divisor.{multiple}
 use Rattle.table_row.proofs.Divisor.{divisor_pos}
-use borrow.Author.Rules.{rules}
 use Rattle.table_row.proofs.euclid.multiple.Goals as goal
 
 pub nonzero_div-result : goal.nonzero_div-result
