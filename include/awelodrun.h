@@ -7,7 +7,7 @@
  * narrowed on the way in. Tables go by pointer, in one form. A list is a pointer and a count of elements; where the count
  * is 0 the pointer may be null. Every other pointer is to as many elements as are said. What a function writes overlaps
  * nothing else that is lent to the same call. No function keeps a pointer, allocates memory, or fails to return. The
- * judge, the ladder and the text of the shift check take some 36 KiB of stack, the others about 1 KiB.
+ * judge, the ladder and the text of the shift check take some 36 KiB of stack, the others about 2 KiB.
  *
  * Every answer begins with a refusal. Its number is 0 where nothing is refused. After a refusal every other number of
  * the answer is 0, save the table of add and remove, which is the one that was lent, and every list that was lent is as
