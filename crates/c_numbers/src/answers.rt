@@ -1,8 +1,8 @@
 // Each answer as its numbers, in the order in which they are given.
 ghost use Rattle.std.specs.Prelude.{◌≡◌};
 ghost use Rattle.table.specs.Check.{numbers};
-ghost use Rattle.judge.specs.Judge.{numbers as judgeNumbers};
-ghost use Rattle.file_check.specs.Check.{numbers as fileNumbers};
+ghost use Rattle.judge.specs.Judge.{numbers as judge_numbers};
+ghost use Rattle.file_check.specs.Check.{numbers as file_numbers};
 ghost use Rattle.table.specs.Seen.{finish_of};
 ghost use Rattle.c_numbers.specs.Answers.{refusal_answer, refusal_and, refusal_first, answer_of, check_answer, judge_answer, lines_answer, file_answer, put_answer};
 
@@ -90,7 +90,7 @@ pub fn of_seen(s: Seen) -> Answer
 
 // The check of a file: the refusal, and the number of entries.
 pub fn of_file_check(c: CheckedFile) -> [u32; 4]
-    ensures { result ≡ file_answer (fileNumbers c) }
+    ensures { result ≡ file_answer (file_numbers c) }
 {
     match c {
         CheckedFile::Entries(n) => [0, 0, 0, widths::word_of_byte(n)],
@@ -107,7 +107,7 @@ pub fn of_written(w: Written) -> [u32; 4]
 
 // The judge: the refusal, then t, work, supply and the frame.
 pub fn of_verdict(v: Verdict) -> [u32; 7]
-    ensures { result ≡ judge_answer (judgeNumbers v) }
+    ensures { result ≡ judge_answer (judge_numbers v) }
 {
     match v {
         Verdict::Infeasible {

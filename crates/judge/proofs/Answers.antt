@@ -12,7 +12,7 @@ use Rattle.basics.proofs.Tabled.{over_filled}
 use Rattle.table.specs.declared.Table.{Table}
 use Rattle.refusal.specs.declared.Refusal.{Refusal}
 use Rattle.table.specs.declared.Checked.TheVariants.{Frame, Refused as Rejects}
-use Rattle.table.specs.Check.{numbers as checkNumbers}
+use Rattle.table.specs.Check.{numbers as check_numbers}
 use Rattle.table.specs.Meaning.{model_of}
 use Rattle.judge_deepen.specs.Reached.{Reached}
 use Rattle.judge_scan.specs.declared.Line.{Line}
@@ -27,7 +27,7 @@ use Rattle.judge.proofs.Lines.{line_none}
 
 module _ (t : Table) (x : ℕ) (map pins : List ℕ) where
   -- a refusal leaves both lists as they were
-  module _ (r : Refusal) (e : checkNumbers (Rejects r) ≡ admit_of t (length map) (length pins)) where
+  module _ (r : Refusal) (e : check_numbers (Rejects r) ≡ admit_of t (length map) (length pins)) where
     pub refuses : eqb r.no 0 ≡ false
     refuses = ne_eqb r.no 0 (λ (z : r.no ≡ 0). omega (arith, admit_rejected t (length map) (length pins) r e))
 
@@ -40,7 +40,7 @@ module _ (t : Table) (x : ℕ) (map pins : List ℕ) where
     pins_kept = rw (← e, refuses)
 
   -- lists that reached depth x are as they are to be left
-  module _ (h : ℕ) (e : checkNumbers (Frame h) ≡ admit_of t (length map) (length pins)) {map' pins' : List ℕ} where
+  module _ (h : ℕ) (e : check_numbers (Frame h) ≡ admit_of t (length map) (length pins)) {map' pins' : List ℕ} where
     pub map_reached : Reached (model_of t) x h map pins map' pins' → map' ≡ map_after t x map pins
     unfolding map_after
     map_reached q = rw (← e) (over_filled _ h map map' q.available_sets (admitted t (length map) (length pins) h e).map_room)
@@ -64,7 +64,7 @@ verdict_case l h = go (eqb l.t 0) refl
     go true e = refl
     go false e = rw e
 
-pub judged_refused : (t : Table) (map pins : List ℕ) (r : Refusal) → checkNumbers (Rejects r) ≡ admit_of t (length map) (length pins)
+pub judged_refused : (t : Table) (map pins : List ℕ) (r : Refusal) → check_numbers (Rejects r) ≡ admit_of t (length map) (length pins)
     → Judged t map pins map pins (Refused r)
 unfolding judge_of
 judged_refused t map pins r e = record {
@@ -74,7 +74,7 @@ judged_refused t map pins r e = record {
   pins_is = pins_kept t t.depth map pins r e;
 }
 
-pub judged_given : (t : Table) (map pins map' pins' : List ℕ) (h n : ℕ) (l : Line) → checkNumbers (Frame h) ≡ admit_of t (length map) (length pins) → n ≡ h
+pub judged_given : (t : Table) (map pins map' pins' : List ℕ) (h n : ℕ) (l : Line) → check_numbers (Frame h) ≡ admit_of t (length map) (length pins) → n ≡ h
     → Lined t n map pins map' pins' l → Judged t map pins map' pins' (verdict_of l h)
 unfolding judge_of
 judged_given t map pins map' pins' h n l e en q =

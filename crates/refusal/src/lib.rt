@@ -2,7 +2,7 @@
 #![tactic(auto)]
 
 ghost use Rattle.std.specs.Prelude.{◌≡◌};
-ghost use Rattle.refusal.specs.Refusal.{in_row, refuse, none as noRefusal, in_entry};
+ghost use Rattle.refusal.specs.Refusal.{in_row, refuse, none as no_refusal, in_entry};
 
 // A refusal's number, and the entry and row that it names, 0 where none applies. Number 0 is no refusal.
 #[derive(Clone, Copy)]
@@ -27,7 +27,7 @@ pub fn refuse(no: u8) -> Refusal
 }
 
 pub fn none() -> Refusal
-    ensures { result ≡ noRefusal }
+    ensures { result ≡ no_refusal }
 {
     in_row(0, 0)
 }

@@ -3,7 +3,7 @@
 
 ghost use Rattle.std.specs.Prelude.{◌≡◌};
 ghost use Rattle.table.specs.Rows.{no_rows, beside_of, no_table};
-ghost use Rattle.table.specs.Check.{numbers, refused as refusedAs, check_of, table_refusal};
+ghost use Rattle.table.specs.Check.{numbers, refused as refused_as, check_of, table_refusal};
 ghost use Rattle.table.specs.Seen.{none_seen, one_more, step_of, finish_of};
 
 use basics::{ranges, widths};
@@ -72,7 +72,7 @@ pub fn no_table() -> Table
 
 // A refusal that names a row, as the answer of a check.
 pub fn refused(no: u8, row: u8) -> Checked
-    ensures { numbers result ≡ refusedAs no row }
+    ensures { numbers result ≡ refused_as no row }
 {
     Checked::Refused(refusal::in_row(no, row))
 }

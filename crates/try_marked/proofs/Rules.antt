@@ -20,7 +20,7 @@ use Rattle.judge_scan.specs.declared.Line.{Line}
 use Rattle.judge_scan.specs.Lines.{line_at}
 use Rattle.judge.specs.declared.Verdict.{Verdict}
 use Rattle.judge_admit.specs.Admit.{admit_of}
-use Rattle.judge.specs.Judge.{given, numbers as verdictNumbers, judge_of, Judged}
+use Rattle.judge.specs.Judge.{given, numbers as verdict_numbers, judge_of, Judged}
 use Rattle.judge_admit.proofs.Admitted.{admit_frame}
 use Rattle.judge.proofs.Meaning.{map_left, pins_left}
 use Rattle.try_marked.specs.declared.Case.{Case}
@@ -77,14 +77,14 @@ module _ (c : Case) (R : Right c) (map pins map' pins' : List ℕ) (m : c.frame 
   admits : admit_of (case_table c) (length map) (length pins) ≡ numbers (Frame c.frame)
   admits = sym (admit_frame (case_table c) (length map) (length pins) c.frame R.check) ∙ rw (le-ltb _ _ m, le-ltb _ _ p)
 
-  pub answer_judged : verdictNumbers r ≡ given (line_in c) c.frame
+  pub answer_judged : verdict_numbers r ≡ given (line_in c) c.frame
   unfolding judge_of
   answer_judged = J.answer ∙ rw (admits, R.line)
 
-  accepts : (verdictNumbers r).refusal.no ≡ 0
+  accepts : (verdict_numbers r).refusal.no ≡ 0
   accepts = rw answer_judged
 
-  within : {s : ℕ} → s < c.frame → s < (verdictNumbers r).frame
+  within : {s : ℕ} → s < c.frame → s < (verdict_numbers r).frame
   within l = rw answer_judged l
 
   pub map_judged : (s : ℕ) → s < c.words → s < c.frame → get_or map' s 0 ≡ get_or c.map s 0

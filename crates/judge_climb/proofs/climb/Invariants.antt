@@ -1,4 +1,4 @@
--- What the loop keeps.
+-- The lists are at depth y, and the lines up to it stand.
 use Prim.Native.Nat.{◌-◌}
 use Rattle.judge_climb.proofs.Climbing.{Climbing}
 use Rattle.table_row.specs.Limits.{most_depths}

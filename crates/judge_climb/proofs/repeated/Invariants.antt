@@ -1,4 +1,4 @@
--- What the loop keeps.
+-- The lines so far are the one before `from`.
 use mathlib.Core.Path.{◌≡◌}
 use mathlib.Core.List.{[]}
 use Prim.Native.Nat.{◌-◌, ◌≤◌}

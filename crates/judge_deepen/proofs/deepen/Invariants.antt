@@ -1,4 +1,4 @@
--- What the loop keeps.
+-- The rows below i are passed, over any available sets that the map holds.
 use mathlib.Core.Path.{◌≡◌}
 use Prim.Native.Nat.{◌-◌, ◌≤◌}
 use lib.ListN.{length}

@@ -1,4 +1,4 @@
--- What the loop keeps.
+-- The slots so far hold their set, or none where it is too large.
 use Prim.Native.Nat.{◌-◌, ◌≤◌}
 use lib.ListN.{get_or}
 use Rattle.sets.specs.Word.{up_to}

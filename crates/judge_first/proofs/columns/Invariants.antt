@@ -1,4 +1,4 @@
--- What the loop keeps.
+-- The rows below i have their periods and deadlines in the two lists.
 use Prim.Native.Nat.{◌-◌, ◌≤◌}
 use Rattle.basics.specs.Over.{Over}
 use Rattle.table.specs.Rows.{row_at}

@@ -1,4 +1,4 @@
--- What the loop keeps.
+-- The slots so far hold the word of their windows.
 use Prim.Native.Nat.{◌-◌, ◌≤◌}
 use Rattle.sets.specs.Word.{word}
 use Rattle.basics.specs.Over.{Over}

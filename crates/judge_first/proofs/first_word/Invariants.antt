@@ -1,4 +1,4 @@
--- What the loop keeps.
+-- The word has the rows below i in whose windows the slot is.
 use mathlib.Core.Path.{◌≡◌}
 use Prim.Native.Nat.{◌-◌, ◌≤◌}
 use Rattle.sets.specs.Word.{word}

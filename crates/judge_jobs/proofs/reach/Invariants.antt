@@ -1,4 +1,4 @@
--- What the loop keeps.
+-- How many of the slots so far have the row; no more than c.
 use mathlib.Core.Path.{◌≡◌}
 use Prim.Native.Nat.{◌-◌, ◌≤◌}
 use Rattle.judge_jobs.specs.First.{in_slot, tally}

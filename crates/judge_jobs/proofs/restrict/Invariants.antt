@@ -1,4 +1,4 @@
--- What the loop keeps.
+-- In the slots so far the map has the row where the pins have it, and a change of a word is noticed.
 use Prim.Native.Nat.{◌-◌, ◌≤◌}
 use Rattle.basics.specs.Over.{Over}
 use Rattle.judge_jobs.specs.First.{in_slot}

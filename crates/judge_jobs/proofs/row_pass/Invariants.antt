@@ -1,4 +1,4 @@
--- What the loop keeps.
+-- The jobs released before `from` are done, and `from` is a release.
 use mathlib.Core.Path.{◌≡◌}
 use Prim.Native.Nat.{ℕ, ◌-◌, ◌%◌, ◌≤◌}
 use Rattle.table_row.specs.declared.Row.{Row}

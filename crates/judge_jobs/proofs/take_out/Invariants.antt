@@ -1,4 +1,4 @@
--- What the loop keeps.
+-- The slots so far are without the row.
 use mathlib.Core.Bool.{false}
 use Prim.Native.Nat.{◌-◌, ◌≤◌}
 use Rattle.basics.specs.Over.{Over}

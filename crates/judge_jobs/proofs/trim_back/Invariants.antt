@@ -1,4 +1,4 @@
--- What the loop keeps.
+-- How many slots before o still have the row; from o on they are without it.
 use mathlib.Core.Path.{◌≡◌}
 use Prim.Native.Nat.{◌+◌, ◌≤◌}
 use mathlib.Core.Bool.{false}

@@ -1,4 +1,4 @@
--- What the loop keeps.
+-- The depths so far have their line spelled.
 use Prim.Native.Nat.{◌-◌, ◌≤◌}
 use Rattle.judge_climb.specs.Core.{Spelled}
 use Rattle.table_row.specs.Limits.{most_depths}

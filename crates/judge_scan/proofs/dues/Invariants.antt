@@ -1,4 +1,4 @@
--- What the loop keeps.
+-- What falls due of the rows below i is added.
 use Prim.Native.Nat.{◌-◌, ◌≤◌}
 use Rattle.judge_scan.specs.Dues.{falling_in, Falls}
 use Rattle.judge_scan.proofs.dues.Given as goal

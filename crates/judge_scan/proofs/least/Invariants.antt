@@ -1,4 +1,4 @@
--- What the loop keeps.
+-- Work and supply are summed over the slots so far, and no length up to there fails.
 use Prim.Native.Nat.{◌-◌, ◌≤◌}
 use Rattle.judge_scan.proofs.Running.{Running}
 use Rattle.judge_scan.proofs.least.Given as goal

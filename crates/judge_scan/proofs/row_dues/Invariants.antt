@@ -1,4 +1,4 @@
--- What the loop keeps.
+-- The windows that end before s have added the execution time, and s is a window's end.
 use mathlib.Core.Path.{◌≡◌}
 use Prim.Native.Nat.{ℕ, ◌+◌, ◌-◌, ◌%◌, ◌<◌}
 use Rattle.table_row.specs.declared.Row.{Row}

@@ -1,4 +1,4 @@
--- What the loop keeps.
+-- The slots so far hold their usable supply.
 use Prim.Native.Nat.{◌-◌, ◌≤◌, min}
 use lib.Count.{ones}
 use lib.ListN.{get_or}

@@ -1,4 +1,4 @@
--- What the loop keeps.
+-- The places so far are zero.
 use Prim.Native.Nat.{◌-◌, ◌≤◌}
 use Rattle.basics.specs.Over.{Over}
 use Rattle.sets.proofs.clear.Given as goal

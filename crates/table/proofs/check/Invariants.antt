@@ -1,4 +1,4 @@
--- What the loop keeps.
+-- The rows below i are seen.
 use Prim.Native.Nat.{◌-◌, ◌≤◌}
 use Rattle.table.specs.Rows.{row_at, beside_of}
 use Rattle.table.proofs.SoFar.{SoFar}
