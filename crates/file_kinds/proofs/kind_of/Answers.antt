@@ -17,7 +17,7 @@ returns-in-128-to-255 c =
 
 pub returns-in_default : goal.returns-in_default
 unfolding kind_of
-returns-in_default c = search tests
+returns-in_default c = search (tests, arith)
 
 pub returns-in_default-2 : goal.returns-in_default-2
 unfolding kind_of

@@ -23,7 +23,7 @@ pub bounds-out-0 : goal.bounds-out-0
 bounds-out-0 t c = omega (arith, decimal_some c.args.v)
 
 pub returns-then-v-lt10 : goal.returns-then-v-lt10
-returns-then-v-lt10 t c = spell_one _ _ _ c.if-v-lt10.true c.digit.ensures (omega (arith, decimal_some c.args.v))
+returns-then-v-lt10 t c = spell_one _ _ _ (omega arith) c.digit.ensures (omega (arith, decimal_some c.args.v))
 
 pub spell-n-requires : goal.spell-n-requires
 spell-n-requires t c = (omega arith, omega (arith, decimal_longer c.args.v c.if-v-lt10.false))
