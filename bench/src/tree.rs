@@ -1,6 +1,7 @@
-//! The tree of a commit: its work tree in the folder against of git's own, its archive, and its server, which is built with its own
+//! The tree of a commit: its work tree in a folder outside this one, its archive, and its server, which is built with its own
 //! binding.
 
+use std::env;
 use std::ffi::OsStr;
 use std::fs;
 use std::iter;
@@ -88,10 +89,11 @@ pub fn check_out(root: &Path, commit: &str, tree: &Path) -> Result<(), String> {
     output(git(root, &["worktree", "add", "--quiet", "--force", "--detach"]).arg(tree).arg(commit)).map(drop)
 }
 
-/// Where commits are checked out and servers are built: inside git's own folder, since `rt ci` looks through every other one and
-/// refuses the sources of another tree.
+/// Where commits are checked out and servers are built: outside the tree, since `rt ci` looks through all of it and refuses the
+/// sources of another one. The folder's name has the path of git's own, so that each tree has its own.
 pub fn rooms(root: &Path) -> Result<PathBuf, String> {
-    output(&mut git(root, &["rev-parse", "--absolute-git-dir"])).map(|folder| Path::new(&folder).join("against"))
+    output(&mut git(root, &["rev-parse", "--absolute-git-dir"]))
+        .map(|folder| env::temp_dir().join("awelodrun-against").join(folder.replace('/', "-")))
 }
 
 /// The crate of the library, by what crates.txt lists: its name stands first, and its kind may follow.
@@ -317,18 +319,19 @@ mod tests {
         room.write("a", "2");
         let two = room.commit("two");
         let tree = rooms(&room.0).unwrap().join("tree");
-        assert!(tree.ends_with(".git/against/tree"));
+        assert!(!tree.starts_with(&room.0), "outside the tree");
         let holds = |text: &str| fs::read_to_string(tree.join("a")).unwrap() == text;
         let made = |commit: &str| check_out(&room.0, commit, &tree).unwrap();
 
         made(&one);
         assert!(holds("1") && !is_changed(&room.0));
-        room.write(".git/against/tree/target/built", "");
+        fs::create_dir(tree.join("target")).unwrap();
+        fs::write(tree.join("target/built"), "").unwrap();
         made(&one);
         assert!(tree.join("target/built").exists(), "what was built is kept");
         made(&two);
         assert!(holds("2"), "another commit");
-        room.write(".git/against/tree/a", "3");
+        fs::write(tree.join("a"), "3").unwrap();
         made(&two);
         assert!(holds("2"), "a changed file");
         fs::remove_dir_all(&tree).unwrap();
@@ -340,5 +343,6 @@ mod tests {
         fs::write(tree.join(".git"), "gitdir: /nowhere\n").unwrap();
         made(&two);
         assert!(is_at(&tree, &two), "a work tree of nothing");
+        fs::remove_dir_all(tree.parent().unwrap()).unwrap();
     }
 }

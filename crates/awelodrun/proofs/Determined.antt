@@ -2,7 +2,7 @@
 use mathlib.Core.Path.{◌≡◌, sym, ◌∙◌}
 use mathlib.Core.List.{List}
 use Prim.Native.Nat.{ℕ}
-use Rattle.refusal.specs.declared.Refusal.{Refusal}
+use Rattle.refusal.specs.Refusal.{Numbered}
 use Rattle.table.specs.declared.Table.{Table}
 use Rattle.awelodrun.specs.Outcomes.{Judges, Ladders, Gives, Writes}
 
@@ -22,7 +22,7 @@ ladder_determined p q =
     (p.map_is ∙ sym q.map_is, p.pins_is ∙ sym q.pins_is, p.square_is ∙ sym q.square_is, p.answer_is ∙ sym q.answer_is)
 
 -- add, remove and find
-pub table_determined : {t : Table} {r : Refusal} {table₁ answer₁ table₂ answer₂ : List ℕ}
+pub table_determined : {t : Table} {r : Numbered} {table₁ answer₁ table₂ answer₂ : List ℕ}
     → Gives t r table₁ answer₁ → Gives t r table₂ answer₂ → (table₁ ≡ table₂) × (answer₁ ≡ answer₂)
 table_determined p q = (p.table_is ∙ sym q.table_is, p.answer_is ∙ sym q.answer_is)
 

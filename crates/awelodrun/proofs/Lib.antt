@@ -1,3 +1,2 @@
 -- The laws behind the C functions.
-pub mod Outcomes
 pub mod Determined

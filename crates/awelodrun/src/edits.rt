@@ -3,8 +3,9 @@ ghost use Rattle.table_edit.specs.Edit.{add_of, remove_of};
 ghost use Rattle.c_numbers.specs.Lent.{lent_table};
 ghost use Rattle.awelodrun.specs.Outcomes.{Edits};
 
+use crate::given;
+use c_numbers::lent;
 use c_numbers::lent::NUMBERS;
-use c_numbers::{answers, lent};
 use table_row::Row;
 
 // Puts a row at the end of a table: the table that comes back, and no, entry, row.
@@ -17,9 +18,8 @@ pub extern "C" fn awelodrun_raw_add(
 )
     ensures { Edits (add_of (lent_table table.now) row) res.new answer.new }
 {
-    let edited = table_edit::add(lent::read_table(table), row);
-    *res = lent::numbers(edited.table);
-    *answer = answers::of_refusal(edited.refusal);
+    let t = lent::read_table(table);
+    given::give(table_edit::add(t, row), t, res, answer);
 }
 
 // Takes the row at an index out of a table: the table that comes back, and no, entry, row.
@@ -32,7 +32,6 @@ pub extern "C" fn awelodrun_raw_remove(
 )
     ensures { Edits (remove_of (lent_table table.now) index) res.new answer.new }
 {
-    let edited = table_edit::remove(lent::read_table(table), index);
-    *res = lent::numbers(edited.table);
-    *answer = answers::of_refusal(edited.refusal);
+    let t = lent::read_table(table);
+    given::give(table_edit::remove(t, index), t, res, answer);
 }

@@ -6,6 +6,7 @@ ghost use Rattle.c_numbers.specs.Lent.{lent_table};
 ghost use Rattle.c_numbers.specs.Answers.{file_answer};
 ghost use Rattle.awelodrun.specs.Outcomes.{Finds, Writes};
 
+use crate::given;
 use c_numbers::lent::NUMBERS;
 use c_numbers::{answers, lent};
 
@@ -14,7 +15,7 @@ use c_numbers::{answers, lent};
 pub extern "C" fn awelodrun_raw_file_check(file: &[u8], answer: &mut [u32; 4])
     ensures { answer.new ≡ file_answer (check_file file.now) }
 {
-    *answer = answers::of_file_check(file_check::check_file(file));
+    *answer = answers::of_result(file_check::check_file(file));
 }
 
 // The table that has a number: the table, and no, entry, row.
@@ -27,9 +28,12 @@ pub extern "C" fn awelodrun_raw_find(
 )
     ensures { Finds (find_of file.now number) res.new answer.new }
 {
-    let found = file_check::find(file, number);
-    *res = lent::numbers(found.table);
-    *answer = answers::of_refusal(found.refusal);
+    given::give(
+        file_check::find(file, number),
+        table::no_table(),
+        res,
+        answer,
+    );
 }
 
 // Writes the file with the table of a number put into it: no, entry, row, length.
@@ -44,5 +48,5 @@ pub extern "C" fn awelodrun_raw_put(
     ensures { Writes file.now number (lent_table table.now) out.old out.new answer.new }
 {
     let t = lent::read_table(table);
-    *answer = answers::of_written(file_put::put(file, number, t, out));
+    *answer = answers::of_result(file_put::put(file, number, t, out));
 }

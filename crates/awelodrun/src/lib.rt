@@ -3,5 +3,6 @@
 
 pub mod edits;
 pub mod files;
+mod given;
 pub mod tables;
 pub mod text;

@@ -9,18 +9,16 @@ ghost use Rattle.awelodrun.specs.Outcomes.{Judges, Ladders};
 use c_numbers::answers::{Answer, SQUARE};
 use c_numbers::lent::NUMBERS;
 use c_numbers::{answers, lent};
-use judge_scan::Line;
 use sets::Set;
 use table::Beside;
 use table_row::Row;
-use table_row::limits::DEPTHS;
 
 // The check of a table: no, entry, row, frame.
 #[unsafe(no_mangle)]
 pub extern "C" fn awelodrun_raw_check(table: &[u16; NUMBERS], answer: &mut [u32; 4])
     ensures { answer.new ≡ check_answer (check_of (lent_table table.now)) }
 {
-    *answer = answers::of_check(table::check(lent::read_table(table)));
+    *answer = answers::of_result(table::check(lent::read_table(table)));
 }
 
 // The check of a list of rows, as it is lent.
@@ -29,10 +27,8 @@ pub extern "C" fn awelodrun_raw_check_list(beside: Beside, rows: &[Row]) -> Answ
     ensures { result ≡ answer_of (check_list beside rows.now) }
 {
     let mut s = table::start(beside);
-    let mut i: usize = 0;
-    while i < rows.len() {
-        s = table::step(s, rows[i]);
-        i += 1;
+    for row in rows {
+        s = table::step(s, *row);
     }
     answers::of_seen(s)
 }
@@ -64,7 +60,6 @@ pub extern "C" fn awelodrun_raw_ladder(
 {
     let t = lent::read_table(table);
     let given = judge_ladder::ladder(t, map, pins);
-    let lines: [Line; DEPTHS] = given.lines;
-    *square = answers::of_lines(lines);
-    *answer = answers::of_refusal(given.refusal);
+    *square = answers::of_lines(given.lines);
+    *answer = answers::of_refusal(&given.refusal);
 }

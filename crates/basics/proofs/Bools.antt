@@ -14,13 +14,6 @@ pub and_right : (a b : Bool) → a && b ≡ true → b ≡ true
 and_right true b e = e
 and_right false b e = absurd (false≢true e)
 
-pub and_true : {a b : Bool} → a ≡ true → b ≡ true → a && b ≡ true
-and_true {a} {b} p q = rw (p, q)
-
-pub or_cases : (a b : Bool) → a || b ≡ true → (a ≡ true) ⊎ (b ≡ true)
-or_cases true b e = inl refl
-or_cases false b e = inr e
-
 pub or_left : {a : Bool} (b : Bool) → a ≡ true → a || b ≡ true
 or_left b p = rw p
 
@@ -28,18 +21,9 @@ pub or_right : (a : Bool) {b : Bool} → b ≡ true → a || b ≡ true
 or_right true q = refl
 or_right false q = q
 
-pub test : (b : Bool) → (b ≡ true) ⊎ (b ≡ false)
-test true = inl refl
-test false = inr refl
-
 pub cond_cases : (c a b : Bool) → cond c a b ≡ true → ((c ≡ true) × (a ≡ true)) ⊎ ((c ≡ false) × (b ≡ true))
 cond_cases true a b e = inl (refl, e)
 cond_cases false a b e = inr (refl, e)
-
-pub same : (a b : Bool) → (a ≡ true → b ≡ true) → (b ≡ true → a ≡ true) → a ≡ b
-same true b f g = sym (f refl)
-same false true f g = g refl
-same false false f g = refl
 
 pub clash : {A : Type 0} {b : Bool} → b ≡ true → b ≡ false → A
 clash p q = absurd (true≢false (sym p ∙ q))

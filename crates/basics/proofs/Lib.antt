@@ -7,3 +7,4 @@ pub mod When
 pub mod Determined
 pub mod Overs
 pub mod Tabled
+pub mod Arrays

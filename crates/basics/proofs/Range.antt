@@ -7,7 +7,8 @@ use native.Mathlib.Omega.{arith}
 use lib.Dec.{leb}
 use borrow.Author.Tests.{leb-true, le-leb}
 use Rattle.basics.specs.Range.{inside}
-use Rattle.basics.proofs.Bools.{and_left, and_right, test, clash}
+use Rattle.std.proofs.lemmas.Bool.{cases_Bool}
+use Rattle.basics.proofs.Bools.{and_left, and_right, clash}
 
 pub inside_true : (low x high : ℕ) → inside low x high ≡ true → (low ≤ x) × (x ≤ high)
 unfolding inside
@@ -18,7 +19,7 @@ unfolding inside
 inside_of low x high h g = rw (le-leb low x h, le-leb x high g)
 
 pub inside_not : (low x high : ℕ) → (low ≤ x → x ≤ high → ⊥) → inside low x high ≡ false
-inside_not low x high f = ⊎_elim (λ e. absurd (f (inside_true low x high e).0 (inside_true low x high e).1)) (λ e. e) (test (inside low x high))
+inside_not low x high f = ⊎_elim (λ e. absurd (f (inside_true low x high e).0 (inside_true low x high e).1)) (λ e. e) (cases_Bool (inside low x high))
 
 -- what the code knows of a range after its test, where the bounds tested are the code's own, and the number is y in another width
 module _ (low x high : ℕ) {from y to : ℕ} {r : Bool} (said : r ≡ inside from y to) (same : y ≡ x) where

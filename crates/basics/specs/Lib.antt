@@ -3,6 +3,5 @@ pub mod Sum
 pub mod Least
 pub mod Range
 pub mod When
-pub mod Cast
 pub mod Over
 pub mod Filled

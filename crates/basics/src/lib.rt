@@ -1,4 +1,4 @@
-// What any crate may use: a number in another width, the smaller of two, a range.
+// What any crate may use: a range, the smaller of two, the lower bits of a size.
 #![tactic(auto)]
 
 pub mod ranges;

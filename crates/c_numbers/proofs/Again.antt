@@ -19,9 +19,9 @@ module _ (t : Table) (full : length t.rows ≡ most_rows) where
   row_again : (i : ℕ) → i < length t.rows → lent_row (numbers_of t) i ≡ get_or t.rows i no_row
   unfolding lent_row
   row_again i h =
-      let a = past_head t full (3 + 3 * i + 0) (3 * i) (omega arith) ∙ first_at T C D no_row t.rows i h in
-      let b = past_head t full (3 + 3 * i + 1) (3 * i + 1) (omega arith) ∙ second_at T C D no_row t.rows i h in
-      let d = past_head t full (3 + 3 * i + 2) (3 * i + 2) (omega arith) ∙ third_at T C D no_row t.rows i h in
+      let a = past_head t (3 + 3 * i + 0) (3 * i) (omega arith) ∙ first_at T C D no_row t.rows i h in
+      let b = past_head t (3 + 3 * i + 1) (3 * i + 1) (omega arith) ∙ second_at T C D no_row t.rows i h in
+      let d = past_head t (3 + 3 * i + 2) (3 * i + 2) (omega arith) ∙ third_at T C D no_row t.rows i h in
       λ j. record { period = a j; execution = b j; deadline = d j }
 
   rows_again : (k : ℕ) → k ≤ length t.rows → lent_rows (numbers_of t) k ≡ take k t.rows

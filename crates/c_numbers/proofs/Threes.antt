@@ -1,18 +1,28 @@
 -- What stands where, in three numbers of each member of a list in turn.
 use mathlib.Core.Path.{◌≡◌, refl, sym, ap, ◌∙◌}
-use mathlib.Core.List.{List, [], ◌∷◌, ◌++◌}
+use mathlib.Core.List.{List, [], ◌∷◌, ◌++◌, map}
 use Prim.Native.Nat.{ℕ, zero, suc, ◌+◌, ◌*◌, ◌<◌}
 use native.Mathlib.Omega.{arith}
-use lib.ListN.{length, get_or, set, drop}
+use lib.ListN.{length, get_or, drop}
 use lib.Seq.{drop-nil, drop-cons, get_or-drop}
+use Rattle.std.specs.List.{flat_map, range_with_len}
+use Rattle.std.proofs.lemmas.List.{length-map, get_or-map}
+use Rattle.std.proofs.lemmas.List.FromFn.{fill_by_all}
 use Rattle.c_numbers.specs.Lent.{threes}
-use Rattle.c_numbers.proofs.Upto.{Upto, upto_three}
 
 module _ {A : Type 0} (f g h : A → ℕ) (d : A) where
-  pub length_threes : (l : List A) → length (threes f g h l) ≡ 3 * length l
+  -- what the members' numbers are, end to end
+  pub threes_joined : (l : List A) → flat_map (λ x. x) (map (λ a. f a ∷ g a ∷ h a ∷ []) l) ≡ threes f g h l
   unfolding threes
-  length_threes [] = refl
-  length_threes (a ∷ l) = omega (arith, length_threes l)
+  threes_joined [] = refl
+  threes_joined (a ∷ l) = ap (λ (r : List ℕ). f a ∷ g a ∷ h a ∷ r) (threes_joined l)
+
+  -- the same of the numbers at each place in turn
+  pub threes_placed : (l : List A) (n : ℕ) → length l ≡ n
+      → flat_map (λ x. x) (map (λ i. let a = get_or l i d in f a ∷ g a ∷ h a ∷ []) (range_with_len 0 n)) ≡ threes f g h l
+  threes_placed l n e =
+      let each = fill_by_all (λ i. let a = get_or l i d in f a ∷ g a ∷ h a ∷ []) (map (λ a. f a ∷ g a ∷ h a ∷ []) l) n [] (length-map l _ ∙ e) (λ k m. get_or-map (λ a. f a ∷ g a ∷ h a ∷ []) l k d [] (omega arith)) in
+      ap (flat_map (λ x. x)) (sym each) ∙ threes_joined l
 
   pub threes_append : (l m : List A) → threes f g h (l ++ m) ≡ threes f g h l ++ threes f g h m
   unfolding threes
@@ -47,10 +57,3 @@ module _ {A : Type 0} (f g h : A → ℕ) (d : A) where
     pub third_at : get_or (threes f g h l) (3 * i + 2) 0 ≡ h (get_or l i d)
     unfolding threes
     third_at = from 2
-
-    -- one member more is written
-    pub member_written : (x : List ℕ) → Upto (threes f g h l) (3 * i) x
-        → let a = get_or l i d in Upto (threes f g h l) (3 * (i + 1)) (set (set (set x (3 * i) (f a)) (3 * i + 1) (g a)) (3 * i + 2) (h a))
-    member_written x w =
-        let e : 3 * i + 3 ≡ 3 * (i + 1) = omega arith in
-        rw (← e) (upto_three w (omega (arith, length_threes l)) (sym first_at) (sym second_at) (sym third_at))

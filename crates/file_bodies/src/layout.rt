@@ -1,8 +1,7 @@
 // Where the parts of a table's body stand. specs/Layout.antt has the same numbers for the contracts.
-ghost use Rattle.basics.specs.Cast.{Cast};
+ghost use Rattle.std.specs.Prelude.{◌≡◌, ◌<◌, ◌^◌};
 ghost use Rattle.file_bodies.specs.Layout.{row_place};
 
-use basics::widths;
 use table_row::limits::ROWS;
 
 // "m, x, the row count and a zero byte".
@@ -18,7 +17,8 @@ pub const BODY: usize = HEAD + ROW * ROWS;
 
 // Where row i begins, and so where a body of i rows ends.
 pub fn row_place(i: u16) -> usize
-    ensures { Cast 19 (row_place i) result }
+    ensures same { result ≡ row_place i }
+    ensures below { result < 2 ^ 19 }
 {
-    HEAD + ROW * widths::size_of_half(i)
+    HEAD + ROW * i as usize
 }

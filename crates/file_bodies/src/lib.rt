@@ -1,7 +1,8 @@
 // The body of a table: read, refused and written.
 #![tactic(auto)]
 
-ghost use Rattle.std.specs.Prelude.{◌≡◌, min, ◌+◌, ◌≤◌, ◌<◌, length, take, replicate};
+ghost use Rattle.std.specs.Prelude.{◌≡◌, ◌+◌, ◌≤◌, length, replicate};
+ghost use Rattle.refusal.specs.Told.{told_in};
 ghost use Rattle.table_row.specs.Limits.{most_rows};
 ghost use Rattle.table.specs.Rows.{room_by};
 ghost use Rattle.table.specs.Check.{table_refusal};
@@ -10,8 +11,7 @@ ghost use Rattle.file_bodies.specs.Layout.{body_head, row_length, most_body};
 ghost use Rattle.file_bodies.specs.Body.{row_of, body_table, table_at, row_bytes, rows_bytes, table_bytes};
 ghost use Rattle.file_bodies.specs.Refusal.{body_refusal};
 
-use basics::{ranges, widths};
-use refusal::Refusal;
+use refusal::{Refusal, Rule};
 use table::Table;
 use table_row::Row;
 use table_row::limits::ROWS;
@@ -23,56 +23,47 @@ use layout::{BODY, FIELD, HEAD};
 // As many rows as there is room for.
 const ROOM: u16 = ROWS as u16;
 
-// A row count as far as there is room.
-fn room(count: u16) -> u16
-    ensures { result ≡ min count most_rows }
-{
-    if widths::size_of_half(count) < ROWS {
-        return count;
-    }
-    ROOM
-}
-
+#[tactic(auto, unfolding(crate::specs::Body::row_of))]
 fn read_row(b: &[u8], i: u16) -> Row
     ensures { result ≡ row_of b.now i }
 {
     let at = layout::row_place(i);
-    let mut row = table_row::no_row();
-    row.period = file_bytes::le16(b, at);
-    row.execution = file_bytes::le16(b, at + FIELD);
-    row.deadline = file_bytes::le16(b, at + 2 * FIELD);
-    row
+    Row {
+        period: file_bytes::le16(b, at),
+        execution: file_bytes::le16(b, at + FIELD),
+        deadline: file_bytes::le16(b, at + 2 * FIELD),
+    }
 }
 
 // The first n rows, and zeros after them.
+#[tactic(auto, using(table::proofs::RowsBy::room_none, table::proofs::RowsBy::room_more))]
 fn read_rows(b: &[u8], n: u16) -> [Row; ROWS]
     requires { n ≤ most_rows }
     ensures { result ≡ room_by (row_of b.now) n }
 {
-    let none = table_row::no_row();
-    let mut rows = [none; ROWS];
-    let mut i: u16 = 0;
-    while i < n {
-        rows[widths::size_of_half(i)] = read_row(b, i);
-        i += 1;
+    let mut rows = table::no_rows();
+    for i in 0..n {
+        rows[i as usize] = read_row(b, i);
     }
     rows
 }
 
 // The table of a body.
+#[tactic(auto, unfolding(crate::specs::Body::body_table))]
 pub fn read_table(b: &[u8]) -> Table
     ensures { result ≡ body_table b.now }
 {
-    let mut t = table::no_table();
-    t.processors = widths::half_of_byte(file_bytes::byte_at(b, 0));
-    t.depth = widths::half_of_byte(file_bytes::byte_at(b, 1));
-    t.count = widths::half_of_byte(file_bytes::byte_at(b, 2));
-    let rows = read_rows(b, room(t.count));
-    t.rows = rows;
-    t
+    let count = file_bytes::byte_at(b, 2) as u16;
+    Table {
+        processors: file_bytes::byte_at(b, 0) as u16,
+        depth: file_bytes::byte_at(b, 1) as u16,
+        count,
+        rows: read_rows(b, count.min(ROOM)),
+    }
 }
 
 // The table in entry i of a file.
+#[tactic(auto, unfolding(crate::specs::Body::table_at))]
 pub fn table_at(s: &[u8], i: u16) -> Table
     ensures { result ≡ table_at s.now i }
 {
@@ -80,17 +71,15 @@ pub fn table_at(s: &[u8], i: u16) -> Table
 }
 
 // The refusal of a table's body, 15 and 1 to 7, or none.
-pub fn body_refusal(b: &[u8]) -> Refusal
-    ensures { result ≡ body_refusal b.now }
+#[tactic(auto, using(basics::proofs::When::tests), unfolding(crate::specs::Refusal::body_refusal))]
+pub fn body_refusal(b: &[u8]) -> Result<(), Refusal>
+    ensures { told_in result ≡ body_refusal b.now }
 {
-    if b.len() < HEAD {
-        return refusal::refuse(15);
-    }
-    if file_bytes::byte_at(b, 3) != 0 {
-        return refusal::refuse(15);
-    }
-    if b.len() != layout::row_place(widths::half_of_byte(file_bytes::byte_at(b, 2))) {
-        return refusal::refuse(15);
+    if b.len() < HEAD
+        || file_bytes::byte_at(b, 3) != 0
+        || b.len() != layout::row_place(file_bytes::byte_at(b, 2) as u16)
+    {
+        return Err(Rule::Body.into());
     }
     table::refusal_of(read_table(b))
 }
@@ -104,29 +93,26 @@ fn put_row(out: &mut [u8], at: usize, r: Row)
     file_bytes::put16(out, at + 2 * FIELD, r.deadline);
 }
 
-// Writes the first n rows at their places.
-fn put_rows(out: &mut [u8], t: Table, n: u16)
-    requires { (n ≤ most_rows) × (length out.old ≡ most_body) }
-    ensures { out.new ≡ over out.old body_head (rows_bytes (take n t.rows)) }
+// Writes rows at their places.
+#[tactic(auto, using(file_bytes::proofs::Overs::over_none, crate::proofs::Writing::row_next), unfolding(crate::specs::Body::rows_bytes))]
+fn put_rows(out: &mut [u8], rows: &[Row])
+    requires { (length rows.now ≤ most_rows) × (length out.old ≡ most_body) }
+    ensures { out.new ≡ over out.old body_head (rows_bytes rows.now) }
 {
-    let mut i: u16 = 0;
-    while i < n {
-        let row = t.rows[widths::size_of_half(i)];
-        put_row(out, layout::row_place(i), row);
-        i += 1;
+    for (i, row) in rows.iter().enumerate() {
+        put_row(out, layout::row_place(i as u16), *row);
     }
 }
 
 // The body of an accepted table, and zeros after it.
+#[tactic(auto, using(table::proofs::Accepted::accepted, crate::proofs::Writing::table_written))]
 pub fn table_bytes(t: Table) -> [u8; BODY]
     requires { (table_refusal t).no ≡ 0 }
     ensures { result ≡ over (replicate most_body 0) 0 (table_bytes t) }
 {
     let mut out = [0u8; BODY];
-    out[0] = t.processors as u8;
-    out[1] = t.depth as u8;
-    out[2] = t.count as u8;
-    out[3] = 0;
-    put_rows(&mut out, t, room(t.count));
+    let head = [t.processors as u8, t.depth as u8, t.count as u8, 0];
+    file_bytes::put_bytes(&mut out, 0, &head);
+    put_rows(&mut out, &t.rows[..t.count as usize]);
     out
 }

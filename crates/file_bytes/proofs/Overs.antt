@@ -1,5 +1,5 @@
 -- How bytes written one part after the other come to be one part.
-use Rattle.std.proofs.Common.{◌≡◌, ℕ, ◌+◌, ◌<◌, ◌≤◌, List, [], ◌∷◌, ◌++◌, length, take, drop, set, sym, refl, ap, ◌∙◌, ap₂, append_assoc, add-zero, zero-add, add-one, arith, length-append, length-drop, take-append-drop, length-take, drop-drop, take_at, le-leb}
+use Rattle.std.proofs.Common.{◌≡◌, ℕ, ◌+◌, ◌-◌, ◌<◌, ◌≤◌, List, [], ◌∷◌, ◌++◌, length, take, drop, set, sym, ap, ◌∙◌, ap₂, append_assoc, add-zero, zero-add, add-one, arith, length-append, length-drop, take-append-drop, length-take, drop-drop, take_at, le-leb}
 use native.Mathlib.Decide.{dec_le}
 use lib.Seq.{drop-append-add, set_split}
 use borrow.Author.Tests.{lt-leb}
@@ -66,12 +66,6 @@ over_byte o at xs i v e h =
     set_over (over o at xs) i v (omega arith)
     ∙ ap (λ (k : ℕ). over (over o at xs) k (v ∷ [])) e
     ∙ over_over o at xs (v ∷ []) (omega arith)
-
--- the two bytes of a number
-pub put_two : (o : List ℕ) (at a b : ℕ) → at + 2 ≤ length o → set (set o at a) (at + 1) b ≡ over o at (a ∷ b ∷ [])
-put_two o at a b h =
-    ap (λ (l : List ℕ). set l (at + 1) b) (set_over o at a (omega arith))
-    ∙ over_byte o at (a ∷ []) (at + 1) b refl (omega arith)
 
 -- what is written at the start comes first, and the rest stands as it was
 pub over_start : (o bs : List ℕ) → length bs ≤ length o → over o 0 bs ≡ bs ++ drop (length bs) o

@@ -1,10 +1,6 @@
 -- How a loop over the bytes works out their sum.
-use Rattle.std.proofs.Common.{◌≡◌, ℕ, ◌+◌, ◌*◌, ◌%◌, ◌<◌, ◌≤◌, List, length, get_or, drop, refl, add-one, drop_of_length-le, drop-cons}
-use Rattle.file_bytes.specs.Sum.{sum_from, sum_of}
-
-pub sum_start : (s : List ℕ) → sum_of s ≡ sum_from 0 0 (drop 0 s)
-unfolding sum_of
-sum_start s = refl
+use Rattle.std.proofs.Common.{◌≡◌, ℕ, ◌+◌, ◌*◌, ◌%◌, ◌<◌, ◌≤◌, List, length, get_or, drop, add-one, drop_of_length-le, drop-cons}
+use Rattle.file_bytes.specs.Sum.{sum_from}
 
 pub sum_step : (s : List ℕ) (a b i : ℕ) → i < length s
     → sum_from a b (drop i s) ≡ sum_from ((a + get_or s i 0) % 65536) ((b + (a + get_or s i 0) % 65536) % 65536) (drop (i + 1) s)

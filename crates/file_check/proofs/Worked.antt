@@ -1,6 +1,7 @@
 -- The worked file of 38 bytes, by computing: it is accepted with one entry, and has the table of number 7.
 use mathlib.Core.Path.{◌≡◌, refl}
 use Prim.Native.Nat.{ℕ}
+use Rattle.std.specs.Prelude.{Ok}
 use mathlib.Core.List.{List, [], ◌∷◌}
 use Rattle.basics.specs.Range.{inside}
 use Rattle.table_row.specs.declared.Row.{Row}
@@ -21,7 +22,6 @@ use Rattle.file_entries.specs.Entries.{count_of, form_of, kind_at, number_at, st
 use Rattle.file_contents.specs.Contents.{head_refusal, entry_refusal, left_over, contents_refusal}
 use Rattle.file_bodies.specs.Body.{row_of, body_table, table_at}
 use Rattle.file_bodies.specs.Refusal.{body_refusal}
-use Rattle.file_check.specs.declared.CheckedFile.TheVariants.{Entries}
 use Rattle.file_check.specs.Check.{part_refusal, file_refusal, numbers, check_file}
 use Rattle.file_check.specs.Find.{find_refusal, find_of}
 
@@ -37,7 +37,7 @@ row p e d = record { period = p; execution = e; deadline = d }
 unfoldable pub table : Table
 table = table_of (beside 2 1) (row 2 1 1 ∷ row 3 2 2 ∷ row 4 2 3 ∷ [])
 
-pub worked_checked : check_file worked ≡ numbers (Entries 1)
+pub worked_checked : check_file worked ≡ numbers (Ok 1)
 unfolding worked check_file file_refusal part_refusal body_refusal body_table room_by rows_by row_of contents_refusal head_refusal entry_refusal left_over when unless first in_turn kind_of count_of form_of kind_at number_at start_at length_at sum_at body_at place_of seek_in at16 at32 sum_of sum_from least least_from check_of check_rows check_each check_frame row_refusal faulty frame_of over_at divisor divisor_in multiple inside
 worked_checked = refl
 

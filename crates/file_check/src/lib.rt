@@ -3,103 +3,74 @@
 
 ghost use Rattle.std.specs.Prelude.{◌≡◌, ◌≤◌};
 ghost use Rattle.refusal.specs.Refusal.{in_entry};
+ghost use Rattle.refusal.specs.Told.{told_in};
 ghost use Rattle.refusal.specs.Order.{in_turn};
 ghost use Rattle.file_entries.specs.Limits.{most_entries};
 ghost use Rattle.file_check.specs.Check.{part_refusal, file_refusal, numbers, check_file};
-ghost use Rattle.file_check.specs.Find.{find_refusal, find_of};
+ghost use Rattle.file_check.specs.Find.{found, find_of};
 
-use refusal::Refusal;
+use file_entries::Entry;
+use file_kinds::Kind;
+use refusal::{Refusal, Rule};
 use table::Table;
 
-// What a check of a file answers: its number of entries, or a refusal.
-#[derive(Clone, Copy)]
-pub enum CheckedFile {
-    Entries(u8),
-    Refused(Refusal),
-}
-
-// What find answers: the table, or a refusal and a table of zeros.
-#[derive(Clone, Copy)]
-pub struct Found {
-    pub refusal: Refusal,
-    pub table: Table,
-}
-
 // The refusal of the body of entry i: 14 and, for a table, 15 and 1 to 7; or none.
-fn part_refusal(s: &[u8], i: u16) -> Refusal
-    ensures { result ≡ part_refusal s.now i }
+#[tactic(auto, using(basics::proofs::When::tests, file_kinds::proofs::Tests::table_said), unfolding(crate::specs::Check::part_refusal))]
+fn part_refusal(s: &[u8], i: u16) -> Result<(), Refusal>
+    ensures { told_in result ≡ part_refusal s.now i }
 {
     let b = file_entries::body(s, i);
-    if file_bytes::body_sum(b) != file_entries::sum_at(s, i) {
-        return refusal::refuse(14);
+    let entry = Entry::read(s, i);
+    if file_bytes::body_sum(b) != entry.sum {
+        return Err(Rule::Sum.into());
     }
-    if file_kinds::is_table(file_kinds::kind_of(file_entries::kind_at(s, i))) {
+    if file_kinds::kind_of(entry.kind) == Some(Kind::Table) {
         return file_bodies::body_refusal(b);
     }
-    refusal::none()
+    Ok(())
 }
 
 // The first refusal of n bodies in turn, with its entry, or none.
-fn parts_refusal(s: &[u8], n: u16) -> Refusal
+#[tactic(auto, using(refusal::proofs::Order::turn_fine, crate::proofs::Steps::parts_refused))]
+fn parts_refusal(s: &[u8], n: u16) -> Result<(), Refusal>
     requires { n ≤ most_entries }
-    ensures { result ≡ in_turn (λ i. in_entry i (part_refusal s.now i)) n }
+    ensures { told_in result ≡ in_turn (λ i. in_entry i (part_refusal s.now i)) n }
 {
-    let mut i: u16 = 0;
-    while i < n {
-        let r = part_refusal(s, i);
-        if r.no != 0 {
-            return refusal::in_entry(i as u8, r);
+    for i in 0..n {
+        if let Err(r) = part_refusal(s, i) {
+            return Err(r.in_entry(i as u8));
         }
-        i += 1;
     }
-    refusal::none()
+    Ok(())
 }
 
 // The refusal of a file, or none.
-pub fn file_refusal(s: &[u8]) -> Refusal
-    ensures { result ≡ file_refusal s.now }
+#[tactic(auto, using(file_contents::proofs::Fine::contents_are_fine, refusal::proofs::Order::first_next, refusal::proofs::Order::first_here), unfolding(crate::specs::Check::file_refusal))]
+pub fn file_refusal(s: &[u8]) -> Result<(), Refusal>
+    ensures { told_in result ≡ file_refusal s.now }
 {
-    let r = file_contents::contents_refusal(s);
-    if r.no != 0 {
-        return r;
-    }
+    file_contents::contents_refusal(s)?;
     parts_refusal(s, file_entries::count(s))
 }
 
 // The number of entries of a file, or its refusal.
-pub fn check_file(s: &[u8]) -> CheckedFile
+#[tactic(auto, using(crate::proofs::Fine::file_is_fine), unfolding(crate::specs::Check::check_file))]
+pub fn check_file(s: &[u8]) -> Result<u8, Refusal>
     ensures { numbers result ≡ check_file s.now }
 {
-    let r = file_refusal(s);
-    if r.no != 0 {
-        return CheckedFile::Refused(r);
-    }
-    CheckedFile::Entries(file_entries::count(s) as u8)
+    file_refusal(s)?;
+    Ok(file_entries::count(s) as u8)
 }
 
-// The file's refusal, 17 where no table has the number, or none.
-fn find_refusal(s: &[u8], number: u16) -> Refusal
-    ensures { result ≡ find_refusal s.now number }
+// The table that has the number; or the file's refusal, then 17.
+#[tactic(auto, using(file_kinds::proofs::Tests::table_said, crate::proofs::Steps::find_file, crate::proofs::Steps::find_missing, crate::proofs::Steps::find_note, crate::proofs::Steps::find_table))]
+pub fn find(s: &[u8], number: u16) -> Result<Table, Refusal>
+    ensures { found result ≡ find_of s.now number }
 {
-    let r = file_refusal(s);
-    if r.no != 0 {
-        return r;
+    file_refusal(s)?;
+    let i = file_entries::seek_of(s, number).ok_or(Rule::NoTable)?;
+    if file_kinds::kind_of(Entry::read(s, i).kind) == Some(Kind::Table) {
+        return Ok(file_bodies::table_at(s, i));
     }
-    if file_kinds::is_table(file_entries::kind_under(s, number)) {
-        return refusal::none();
-    }
-    refusal::refuse(17)
-}
-
-// The table that has the number.
-pub fn find(s: &[u8], number: u16) -> Found
-    ensures { result ≡ find_of s.now number }
-{
-    let refusal = find_refusal(s, number);
-    if refusal.no != 0 {
-        let table = table::no_table();
-        return Found { refusal, table };
-    }
-    let table = file_bodies::table_at(s, file_entries::seek_of(s, number));
-    Found { refusal, table }
+    Err(Rule::NoTable.into())
 }

@@ -1,7 +1,6 @@
 -- "For a file: 9, 10, 11; each entry in turn 12, 13, 16; then 13 for bytes left over"
 use Rattle.std.specs.Prelude.{ℕ, ◌+◌, ◌-◌, List, length, leb, ltb, eqb}
-use Rattle.refusal.specs.declared.Refusal.{Refusal}
-use Rattle.refusal.specs.Refusal.{refuse, none, in_entry}
+use Rattle.refusal.specs.Refusal.{Numbered, refuse, none, in_entry}
 use Rattle.basics.specs.Range.{inside}
 use Rattle.basics.specs.When.{when, unless}
 use Rattle.refusal.specs.Order.{first, in_turn}
@@ -26,11 +25,11 @@ entry_refusal s i =
     (when (ltb (seek_in s (number_at s i) i) i) 16 0)))
 
 -- 13: "bytes after the last body", which "gives the last entry"
-unfoldable pub left_over : List ℕ → Refusal
+unfoldable pub left_over : List ℕ → Numbered
 left_over s = unless (eqb (place_of s (count_of s)) (length s)) (in_entry (count_of s - 1) (refuse 13)) none
 
-abbrev pub entries_refusal : List ℕ → Refusal
+abbrev pub entries_refusal : List ℕ → Numbered
 entries_refusal s = first (in_turn (λ i. in_entry i (refuse (entry_refusal s i))) (count_of s)) (left_over s)
 
-unfoldable pub contents_refusal : List ℕ → Refusal
+unfoldable pub contents_refusal : List ℕ → Numbered
 contents_refusal s = first (refuse (head_refusal s)) (entries_refusal s)

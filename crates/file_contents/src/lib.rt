@@ -2,82 +2,85 @@
 #![tactic(auto)]
 
 ghost use Rattle.std.specs.Prelude.{◌≡◌, ◌≤◌, length};
+ghost use Rattle.refusal.specs.Told.{number_in, told_in};
 ghost use Rattle.file_entries.specs.Limits.{most_bytes};
-ghost use Rattle.file_entries.specs.Entries.{count_of, place_of};
+ghost use Rattle.file_entries.specs.Entries.{place_of};
 ghost use Rattle.file_contents.specs.Contents.{head_refusal, entry_refusal, entries_refusal, contents_refusal};
 
-use basics::{ranges, widths};
+use basics::ranges;
+use file_entries::Entry;
 use file_entries::limits::{BYTES, ENTRIES, FORM, HEAD};
-use refusal::Refusal;
+use refusal::{Refusal, Rule};
 
-// 9, 10 or 11 of the file's length and its first four bytes, or 0.
-fn head_refusal(s: &[u8]) -> u8
-    ensures { result ≡ head_refusal s.now }
+// 9, 10 or 11 of the file's length and its first four bytes.
+#[tactic(auto, unfolding(crate::specs::Contents::head_refusal, basics::specs::When::unless, basics::specs::Range::inside))]
+fn head_refusal(s: &[u8]) -> Result<(), Rule>
+    ensures { number_in result ≡ head_refusal s.now }
 {
     if !ranges::within(HEAD, s.len(), BYTES) {
-        return 9;
+        return Err(Rule::Bytes);
     }
     if file_entries::form(s) != FORM {
-        return 10;
+        return Err(Rule::Form);
     }
     let n = file_entries::count(s);
-    if !ranges::within(1, widths::size_of_half(n), ENTRIES) {
-        return 11;
+    if !ranges::within(1, n as usize, ENTRIES) {
+        return Err(Rule::Entries);
     }
     if s.len() < file_entries::after_entries(n) {
-        return 11;
+        return Err(Rule::Entries);
     }
-    0
+    Ok(())
 }
 
-// 12, 13 or 16 of entry i, whose body must start at a place, or 0.
-fn entry_refusal(s: &[u8], i: u16, place: usize) -> u8
-    requires { (place ≡ place_of s.now i) × (place ≤ length s.now) × (length s.now ≤ most_bytes) }
-    ensures { result ≡ entry_refusal s.now i }
+// 12, 13 or 16 of entry i, whose body must start at a place.
+#[tactic(auto, unfolding(crate::specs::Contents::entry_refusal, basics::specs::When::when, basics::specs::When::unless, file_entries::specs::Entries::sought))]
+fn entry_refusal(s: &[u8], i: u16, place: usize) -> Result<(), Rule>
+    requires placed { place ≡ place_of s.now i }
+    requires reached { place ≤ length s.now }
+    requires most { length s.now ≤ most_bytes }
+    ensures { number_in result ≡ entry_refusal s.now i }
 {
-    if file_kinds::is_refused(file_kinds::kind_of(file_entries::kind_at(s, i))) {
-        return 12;
+    let e = Entry::read(s, i);
+    if file_kinds::kind_of(e.kind).is_none() {
+        return Err(Rule::Kind);
     }
-    if widths::size_of_half(file_entries::start_at(s, i)) != place {
-        return 13;
+    if e.start as usize != place {
+        return Err(Rule::Place);
     }
-    if s.len() < place + widths::size_of_half(file_entries::length_at(s, i)) {
-        return 13;
+    if s.len() < place + e.length as usize {
+        return Err(Rule::Place);
     }
-    if file_entries::seek(s, file_entries::number_at(s, i), i) < i {
-        return 16;
+    if file_entries::seek(s, e.number, i).is_some() {
+        return Err(Rule::Twice);
     }
-    0
+    Ok(())
 }
 
 // The first refusal of the entries in turn, or 13 for bytes left over.
-fn entries_refusal(s: &[u8], n: u16) -> Refusal
-    requires { (head_refusal s.now ≡ 0) × (n ≡ count_of s.now) }
-    ensures { result ≡ entries_refusal s.now }
+fn entries_refusal(s: &[u8]) -> Result<(), Refusal>
+    requires { head_refusal s.now ≡ 0 }
+    ensures { told_in result ≡ entries_refusal s.now }
 {
+    let n = file_entries::count(s);
     let mut place = file_entries::after_entries(n);
-    let mut i: u16 = 0;
-    while i < n {
-        let no = entry_refusal(s, i, place);
-        if no != 0 {
-            return refusal::in_entry(i as u8, refusal::refuse(no));
+    for i in 0..n {
+        if let Err(rule) = entry_refusal(s, i, place) {
+            return Err(Refusal::from(rule).in_entry(i as u8));
         }
-        place = place + widths::size_of_half(file_entries::length_at(s, i));
-        i += 1;
+        place += Entry::read(s, i).length as usize;
     }
     if place != s.len() {
-        return refusal::in_entry((n - 1) as u8, refusal::refuse(13));
+        return Err(Refusal::from(Rule::Place).in_entry((n - 1) as u8));
     }
-    refusal::none()
+    Ok(())
 }
 
-// The refusal of the contents of a file, or none.
-pub fn contents_refusal(s: &[u8]) -> Refusal
-    ensures { result ≡ contents_refusal s.now }
+// The refusal of the contents of a file.
+#[tactic(auto, using(crate::proofs::Steps::head_refused, crate::proofs::Steps::head_passed))]
+pub fn contents_refusal(s: &[u8]) -> Result<(), Refusal>
+    ensures { told_in result ≡ contents_refusal s.now }
 {
-    let no = head_refusal(s);
-    if no != 0 {
-        return refusal::refuse(no);
-    }
-    entries_refusal(s, file_entries::count(s))
+    head_refusal(s)?;
+    entries_refusal(s)
 }

@@ -1,9 +1,9 @@
 -- What stands in the contents of the file s.
-use Rattle.std.specs.Prelude.{cond, ℕ, zero, suc, ◌+◌, List, take, drop, ltb, eqb}
+use Rattle.std.specs.Prelude.{cond, ℕ, zero, suc, ◌+◌, List, take, drop, ltb, eqb, Option, Some, None}
 use Rattle.basics.specs.Least.{least}
 use Rattle.file_bytes.specs.Number.{at16, at32}
 use Rattle.file_kinds.specs.declared.Kind.{Kind}
-use Rattle.file_kinds.specs.declared.Kind.TheVariants.{Refused}
+use Rattle.file_entries.specs.declared.Entry.{Entry}
 use Rattle.file_entries.specs.Limits.{after_entries}
 use Rattle.file_kinds.specs.Kinds.{kind_of}
 
@@ -31,6 +31,16 @@ length_at s i = at16 s (after_entries i + 6)
 unfoldable pub sum_at : List ℕ → ℕ → ℕ
 sum_at s i = at32 s (after_entries i + 8)
 
+-- entry i, read
+abbrev pub entry_read : List ℕ → ℕ → Entry
+entry_read s i = record {
+  kind = kind_at s i;
+  number = number_at s i;
+  start = start_at s i;
+  length = length_at s i;
+  sum = sum_at s i;
+}
+
 -- the bytes that entry i calls its body
 unfoldable pub body_at : List ℕ → ℕ → List ℕ
 body_at s i = take (length_at s i) (drop (start_at s i) s)
@@ -48,6 +58,10 @@ seek_in s number n = least (λ i. eqb (number_at s i) number) n
 abbrev pub seek_of : List ℕ → ℕ → ℕ
 seek_of s number = seek_in s number (count_of s)
 
--- the kind of that entry; where none has the number, the kind of no entry that may stand in a file
-unfoldable pub kind_under : List ℕ → ℕ → Kind
-kind_under s number = cond (ltb (seek_of s number) (count_of s)) (kind_of (kind_at s (seek_of s number))) Refused
+-- the answer to a search of n entries that came to entry i: none where i is n
+unfoldable pub sought : ℕ → ℕ → Option ℕ
+sought i n = cond (ltb i n) (Some i) None
+
+-- the kind of the entry that has the number; none where no entry has it, or its kind is refused
+unfoldable pub kind_under : List ℕ → ℕ → Option Kind
+kind_under s number = cond (ltb (seek_of s number) (count_of s)) (kind_of (kind_at s (seek_of s number))) None

@@ -2,55 +2,26 @@
 #![tactic(auto)]
 
 ghost use Rattle.std.specs.Prelude.{◌≡◌};
-ghost use Rattle.file_kinds.specs.Kinds.{kind_of, is_table, is_note, is_refused};
+ghost use Rattle.file_kinds.specs.Kinds.{kind_of};
 
 // The kind number of a table.
 pub const TABLE: u16 = 1;
 
-// What a kind number says of an entry.
-#[derive(Clone, Copy)]
+// What an entry that may stand in a file is.
+#[derive(Clone, Copy, Debug, PartialEq, Eq)]
 pub enum Kind {
     Table,
     Note,
-    Refused,
 }
 
-pub fn kind_of(k: u16) -> Kind
+// The kind that a number says; None where it is refused.
+#[tactic(auto, unfolding(crate::specs::Kinds::kind_of, basics::specs::When::when))]
+pub fn kind_of(k: u16) -> Option<Kind>
     ensures { result ≡ kind_of k }
 {
     match k {
-        1 => Kind::Table,
-        128..=255 => Kind::Note,
-        _ => Kind::Refused,
-    }
-}
-
-pub fn is_table(k: Kind) -> bool
-    ensures { result ≡ is_table k }
-{
-    match k {
-        Kind::Table => true,
-        Kind::Note => false,
-        Kind::Refused => false,
-    }
-}
-
-pub fn is_note(k: Kind) -> bool
-    ensures { result ≡ is_note k }
-{
-    match k {
-        Kind::Table => false,
-        Kind::Note => true,
-        Kind::Refused => false,
-    }
-}
-
-pub fn is_refused(k: Kind) -> bool
-    ensures { result ≡ is_refused k }
-{
-    match k {
-        Kind::Table => false,
-        Kind::Note => false,
-        Kind::Refused => true,
+        TABLE => Some(Kind::Table),
+        128..=255 => Some(Kind::Note),
+        _ => None,
     }
 }

@@ -7,8 +7,7 @@ use mathlib.Core.List.{List}
 use lib.Dec.{eqb}
 use borrow.Author.Tests.{eqb-false, ne_eqb}
 use Rattle.basics.proofs.Range.{inside_of}
-use Rattle.refusal.specs.declared.Refusal.{Refusal}
-use Rattle.refusal.specs.Refusal.{none, in_entry}
+use Rattle.refusal.specs.Refusal.{Numbered, none, in_entry}
 use Rattle.basics.proofs.Least.{least_below, least_none}
 use Rattle.file_kinds.specs.Kinds.{kind_of, is_table}
 use Rattle.file_entries.specs.Entries.{count_of, kind_at, number_at, body_at, seek_in}
@@ -22,7 +21,7 @@ use Rattle.file_check.specs.Check.{part_refusal, file_refusal}
 use Rattle.file_check.proofs.Steps.{part_table, part_note, file_parts}
 use Rattle.file_check.proofs.Fine.{PartFine, FileFine}
 
-abbrev code : Refusal → ℕ
+abbrev code : Numbered → ℕ
 code r = r.no
 
 -- a number is fresh where no earlier entry has it

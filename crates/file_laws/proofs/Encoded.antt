@@ -1,4 +1,5 @@
 -- The bytes of valid entries are bytes.
+use Rattle.std.proofs.Common.{Some, None}
 use mathlib.Core.Path.{◌≡◌, refl}
 use mathlib.Core.Bool.{Bool, true, false, cond}
 use Prim.Native.Nat.{ℕ, ◌+◌, ◌/◌, ◌%◌, ◌<◌}
@@ -31,7 +32,7 @@ kind_small : (k : ℕ) → is_refused (kind_of k) ≡ false → k < 256
 unfolding kind_of when
 kind_small k = go (eqb k table_kind) (ltb k 128) (ltb k 256) refl refl
   where
-    go : (a b c : Bool) → eqb k table_kind ≡ a → ltb k 256 ≡ c → is_refused (cond a Kind.Table (cond b Kind.Refused (cond c Kind.Note Kind.Refused))) ≡ false → k < 256
+    go : (a b c : Bool) → eqb k table_kind ≡ a → ltb k 256 ≡ c → is_refused (cond a (Some Kind.Table) (cond b None (cond c (Some Kind.Note) None))) ≡ false → k < 256
     go true b c p q e = omega (arith, eqb-true k table_kind p)
     go false true c p q e = clash refl e
     go false false true p q e = ltb-true _ _ q

@@ -8,7 +8,7 @@ use lib.Dec.{ltb}
 use borrow.Author.Tests.{ltb-true}
 use Rattle.basics.proofs.Bools.{and_left, and_right}
 use Rattle.refusal.specs.Refusal.{none}
-use Rattle.file_check.specs.declared.Found.{Found}
+use Rattle.file_check.specs.Find.{Found}
 use Rattle.file_check.proofs.Worked.{worked, table, worked_found}
 use Rattle.file_put.specs.Put.{put_of, put_out}
 use Rattle.file_laws.specs.Valid.{Bytes}

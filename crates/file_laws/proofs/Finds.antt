@@ -1,4 +1,5 @@
 -- Find in an accepted file is find over its entries.
+use Rattle.std.proofs.Common.{None}
 use mathlib.Core.Path.{◌≡◌, refl, sym, ap, ◌∙◌}
 use mathlib.Core.Bool.{Bool, true, false, cond}
 use Prim.Native.Nat.{ℕ, zero, suc, ◌+◌}
@@ -11,13 +12,12 @@ use Rattle.basics.specs.Least.{least_from, least}
 use Rattle.refusal.specs.Refusal.{refuse, none}
 use Rattle.basics.specs.When.{unless}
 use Rattle.table.specs.Rows.{no_table}
-use Rattle.file_kinds.specs.declared.Kind.{Kind}
 use Rattle.file_kinds.specs.Kinds.{kind_of, is_table}
 use Rattle.file_entries.specs.Entries.{count_of, kind_at, number_at, seek_in, seek_of, kind_under}
 use Rattle.file_contents.specs.File.{entry_at, entries_from, entries_of}
 use Rattle.refusal.proofs.Order.{first_next}
 use Rattle.file_bodies.specs.Body.{table_at}
-use Rattle.file_check.specs.declared.Found.{Found}
+use Rattle.file_check.specs.Find.{Found}
 use Rattle.file_check.specs.Check.{file_refusal}
 use Rattle.file_check.specs.Find.{table_has, find_refusal, find_of}
 use Rattle.file_laws.specs.FindIn.{found, lost, find_in}
@@ -28,7 +28,7 @@ module _ (s : List ℕ) (number : ℕ) where
 
   -- the answer from where the number stands, if it stands below an end
   abbrev answer : ℕ → ℕ → Found
-  answer i end = cond (is_table (cond (ltb i end) (kind_of (kind_at s i)) Kind.Refused)) (found (table_at s i)) lost
+  answer i end = cond (is_table (cond (ltb i end) (kind_of (kind_at s i)) None)) (found (table_at s i)) lost
 
   find_from : (i k : ℕ) → answer (least_from has i k) (i + k) ≡ find_in (entries_from s i k) number
   unfolding find_in entries_from entry_at least_from table_at

@@ -7,9 +7,8 @@ use mathlib.Core.List.{List}
 use lib.ListN.{length}
 use lib.Dec.{leb}
 use borrow.Author.Tests.{leb-true}
-use Rattle.refusal.specs.declared.Refusal.{Refusal}
+use Rattle.refusal.specs.Refusal.{Numbered, refuse, none}
 use Rattle.table.specs.declared.Table.{Table}
-use Rattle.refusal.specs.Refusal.{refuse, none}
 use Rattle.refusal.proofs.Order.{first_fine}
 use Rattle.basics.proofs.When.{when_passed, unless_passed}
 use Rattle.file_entries.specs.Limits.{most_entries, most_bytes}
@@ -17,7 +16,7 @@ use Rattle.table.specs.Check.{table_refusal}
 use Rattle.file_check.specs.Check.{file_refusal}
 use Rattle.file_new.specs.New.{new_entries, new_file, note_has, put_refusal}
 
-abbrev code : Refusal → ℕ
+abbrev code : Numbered → ℕ
 code r = r.no
 
 pub record Passed (s : List ℕ) (number : ℕ) (t : Table) (room : ℕ) : Type 0 where

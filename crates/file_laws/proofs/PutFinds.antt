@@ -1,4 +1,5 @@
 -- Find in a list of entries with a table put into it.
+use Rattle.std.proofs.Common.{Some, None}
 use mathlib.Core.Path.{◌≡◌, refl, sym, ap, ◌∙◌}
 use mathlib.Core.Bool.{Bool, true, false, cond}
 use Prim.Native.Nat.{ℕ}
@@ -14,7 +15,7 @@ use Rattle.file_contents.specs.File.{Entry, entry_by}
 use Rattle.file_bodies.specs.Body.{body_table, table_bytes}
 use Rattle.table.specs.Check.{table_refusal}
 use Rattle.file_bodies.proofs.Refusals.{body_is_fine}
-use Rattle.file_check.specs.declared.Found.{Found}
+use Rattle.file_check.specs.Find.{Found}
 use Rattle.file_new.specs.New.{table_entry, put_entry}
 use Rattle.file_laws.specs.Valid.{ValidEntry, Each}
 use Rattle.file_laws.specs.FindIn.{found, lost, find_in}
@@ -51,7 +52,7 @@ kind_one : (k : ℕ) → is_table (kind_of k) ≡ true → k ≡ table_kind
 unfolding kind_of when
 kind_one k h = eqb-true k table_kind (go (eqb k table_kind) (ltb k 128) (ltb k 256) h)
   where
-    go : (a b c : Bool) → is_table (cond a Kind.Table (cond b Kind.Refused (cond c Kind.Note Kind.Refused))) ≡ true → a ≡ true
+    go : (a b c : Bool) → is_table (cond a (Some Kind.Table) (cond b None (cond c (Some Kind.Note) None))) ≡ true → a ≡ true
     go true b c e = refl
     go false true c e = e
     go false false true e = e

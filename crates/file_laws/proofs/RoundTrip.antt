@@ -7,7 +7,9 @@ use lib.ListN.{length, drop}
 use borrow.Author.Tests.{le-leb}
 use Rattle.refusal.specs.Refusal.{none}
 use Rattle.file_entries.specs.Limits.{most_bytes}
+use Rattle.std.proofs.Common.{Option, Some, None}
 use Rattle.file_kinds.specs.declared.Kind.{Kind}
+use Rattle.file_kinds.specs.declared.Kind.TheVariants.{Table, Note}
 use Rattle.basics.specs.When.{when, unless}
 use Rattle.refusal.specs.Order.{first}
 use Rattle.file_kinds.specs.Kinds.{is_table, is_note}
@@ -16,23 +18,21 @@ use Rattle.file_entries.proofs.Under.{under_entry}
 use Rattle.file_contents.specs.File.{encode, entries_of}
 use Rattle.refusal.proofs.Order.{first_next}
 use Rattle.table.specs.Check.{table_refusal}
-use Rattle.file_check.specs.declared.Found.{Found}
 use Rattle.file_check.specs.Check.{file_refusal}
-use Rattle.file_check.specs.Find.{find_of}
+use Rattle.file_check.specs.Find.{Found, find_of}
 use Rattle.file_check.proofs.Fine.{FoundFine, found_is_fine}
-use Rattle.file_put.specs.declared.Written.{Written}
 use Rattle.file_new.specs.New.{table_entry, put_entry, new_entries, new_file, note_has, put_refusal}
-use Rattle.file_put.specs.Put.{put_of, put_out, Puts}
+use Rattle.file_put.specs.Put.{Written, put_of, put_out, Puts}
 use Rattle.file_laws.specs.Valid.{Bytes, ValidEntries}
 use Rattle.file_laws.proofs.Accepted.{file_back, file_valid}
 use Rattle.file_laws.proofs.Finds.{find_entries}
 use Rattle.file_laws.proofs.PutFinds.{put_found}
 
 -- a table's number is no note's
-not_note : (k : Kind) → is_table k ≡ true → is_note k ≡ false
-not_note Kind.Table e = refl
-not_note Kind.Note e = sym e
-not_note Kind.Refused e = refl
+not_note : (k : Option Kind) → is_table k ≡ true → is_note k ≡ false
+not_note (Some Table) e = refl
+not_note (Some Note) e = sym e
+not_note None e = refl
 
 no_note : (s : List ℕ) (number : ℕ) → FoundFine s number → note_has s number ≡ false
 no_note s number f = not_note (kind_under s number) (ap is_table (sym (under_entry s number f.below)) ∙ f.table)

@@ -1,23 +1,21 @@
 -- What put writes: an accepted file, in which find gives the new table and, for every other number, what it gave before.
+use Rattle.std.proofs.Common.{Ok}
 use mathlib.Core.Path.{◌≡◌, refl, sym, ap, ◌∙◌}
 use Prim.Native.Nat.{ℕ, ◌<◌}
 use mathlib.Core.List.{List, ◌++◌}
 use lib.ListN.{length, take, drop}
 use lib.Seq.{take-append_seam}
 use borrow.Author.Tests.{eq-eqb}
-use Rattle.refusal.specs.declared.Refusal.{Refusal}
+use Rattle.refusal.specs.Refusal.{Numbered, none}
 use Rattle.table.specs.declared.Table.{Table}
 use Rattle.table_row.specs.Limits.{most_rows}
-use Rattle.refusal.specs.Refusal.{none}
 use Rattle.basics.specs.When.{when}
 use Rattle.file_kinds.specs.Kinds.{kind_of}
 use Rattle.file_contents.specs.File.{Entry, entries_of}
-use Rattle.file_check.specs.declared.CheckedFile.TheVariants.{Entries}
 use Rattle.file_check.specs.Check.{file_refusal, numbers, check_file}
 use Rattle.file_check.specs.Find.{find_of}
-use Rattle.file_put.specs.declared.Written.{Written}
 use Rattle.file_new.specs.New.{table_entry, new_entries, new_file, put_refusal}
-use Rattle.file_put.specs.Put.{put_of, put_out, Puts}
+use Rattle.file_put.specs.Put.{Written, put_of, put_out, Puts}
 use Rattle.file_laws.specs.Valid.{Bytes, ValidEntry, ValidEntries}
 use Rattle.file_laws.specs.FindIn.{found, find_in, cleared}
 use Rattle.file_laws.proofs.Accepted.{file_valid, encode_fine}
@@ -55,12 +53,12 @@ module _ (s : List ℕ) (number : ℕ) (t : Table) (room : ℕ) (bytes : Bytes s
   unfolding new_file
   put_accepted = sym (encode_fine (new_entries s number t) new_valid)
 
-  pub put_checked : check_file (new_file s number t) ≡ numbers (Entries (length (new_entries s number t)))
+  pub put_checked : check_file (new_file s number t) ≡ numbers (Ok (length (new_entries s number t)))
   unfolding check_file
-  put_checked = rw put_accepted (ap (λ (n : ℕ). numbers (Entries n)) (put_counted s number t))
+  put_checked = rw put_accepted (ap (λ (n : ℕ). numbers (Ok n)) (put_counted s number t))
 
   fine : (file_refusal (new_file s number t)).no ≡ 0
-  fine = ap (λ (r : Refusal). r.no) put_accepted
+  fine = ap (λ (r : Numbered). r.no) put_accepted
 
   find_new : (n : ℕ) → find_of (new_file s number t) n ≡ find_in (new_entries s number t) n
   find_new n = find_entries (new_file s number t) n fine ∙ ap (λ (es : List Entry). find_in es n) (put_entries s number t)

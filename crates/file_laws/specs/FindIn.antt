@@ -8,7 +8,7 @@ use Rattle.table.specs.Rows.{beside_of, table_by, no_table}
 use Rattle.file_kinds.specs.Kinds.{kind_of, is_table}
 use Rattle.file_contents.specs.File.{Entry}
 use Rattle.file_bodies.specs.Body.{body_table}
-use Rattle.file_check.specs.declared.Found.{Found}
+use Rattle.file_check.specs.Find.{Found}
 
 abbrev pub found : Table → Found
 found t = record { refusal = none; table = t }

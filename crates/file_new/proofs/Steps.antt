@@ -7,8 +7,12 @@ use lib.ListN.{length}
 use lib.Dec.{leb, eqb}
 use borrow.Author.Tests.{ne_eqb, le-leb, lt-leb, eqb-false, leb-true}
 use Rattle.refusal.specs.declared.Refusal.{Refusal}
+use Rattle.refusal.specs.Told.{told}
+use Rattle.refusal.proofs.Told.{number_some}
+use Rattle.file_entries.specs.Entries.{count_of, sought, seek_of}
+use Rattle.file_new.proofs.Entered.{entered_count}
+use Rattle.refusal.specs.Refusal.{Numbered, refuse, none}
 use Rattle.table.specs.declared.Table.{Table}
-use Rattle.refusal.specs.Refusal.{refuse, none}
 use Rattle.basics.specs.When.{when, unless}
 use Rattle.refusal.specs.Order.{first}
 use Rattle.file_entries.specs.Limits.{most_entries, most_bytes}
@@ -16,44 +20,47 @@ use Rattle.refusal.proofs.Order.{first_next, first_here, first_fine}
 use Rattle.basics.proofs.When.{when_passed, unless_passed}
 use Rattle.table.specs.Check.{table_refusal}
 use Rattle.file_check.specs.Check.{file_refusal}
-use Rattle.file_new.specs.New.{new_entries, new_file, note_has, put_refusal}
-use Rattle.file_new.specs.Steps.{early_refusal, length_refusal}
+use Rattle.file_new.specs.New.{table_entry, new_entries, new_file, note_has, put_refusal}
+use Rattle.file_new.specs.Steps.{new_count, early_refusal, length_refusal}
 
-abbrev no : Refusal → ℕ
+abbrev no : Numbered → ℕ
 no r = r.no
 
 -- the file, the table, 17 and 11
 module _ (s : List ℕ) (number : ℕ) (t : Table) where
-  abbrev place : Refusal
+  abbrev place : Numbered
   place =
       when (note_has s number) (refuse 17)
       (unless (leb (length (new_entries s number t)) most_entries) (refuse 11) none)
 
-  pub early_file : ((file_refusal s).no ≡ 0 → ⊥) → file_refusal s ≡ early_refusal s number t
+  pub early_file : (r : Refusal) → told r ≡ file_refusal s → told r ≡ early_refusal s number t
   unfolding early_refusal
-  early_file b = first_here (file_refusal s) (first (table_refusal t) place) b
+  early_file r e = e ∙ first_here (file_refusal s) (first (table_refusal t) place) (rw (← e) (number_some r.rule))
 
-  module _ (f : (file_refusal s).no ≡ 0) where
-    pub early_table : ((table_refusal t).no ≡ 0 → ⊥) → table_refusal t ≡ early_refusal s number t
+  module _ (f : none ≡ file_refusal s) where
+    file_passed : first (table_refusal t) place ≡ early_refusal s number t
     unfolding early_refusal
-    early_table b = first_here (table_refusal t) place b ∙ first_next (file_refusal s) (first (table_refusal t) place) f
+    file_passed = first_next (file_refusal s) (first (table_refusal t) place) (rw (← f))
 
-    module _ (g : (table_refusal t).no ≡ 0) where
+    pub early_table : (r : Refusal) → told r ≡ table_refusal t → told r ≡ early_refusal s number t
+    early_table r e = e ∙ first_here (table_refusal t) place (rw (← e) (number_some r.rule)) ∙ file_passed
+
+    module _ (g : none ≡ table_refusal t) where
       passed : place ≡ early_refusal s number t
-      unfolding early_refusal
-      passed = first_next (table_refusal t) place g ∙ first_next (file_refusal s) (first (table_refusal t) place) f
+      passed = first_next (table_refusal t) place (rw (← g)) ∙ file_passed
 
       pub early_note : note_has s number ≡ true → refuse 17 ≡ early_refusal s number t
       unfolding when
       early_note h = rw h refl ∙ passed
 
-      pub early_full : note_has s number ≡ false → most_entries < length (new_entries s number t) → refuse 11 ≡ early_refusal s number t
-      unfolding when unless
-      early_full h l = rw (h, lt-leb _ _ l) refl ∙ passed
+      module _ (h : note_has s number ≡ false) where
+        pub early_full : most_entries < new_count (count_of s) (sought (seek_of s number) (count_of s)) → refuse 11 ≡ early_refusal s number t
+        unfolding when unless new_entries
+        early_full l = rw (h, lt-leb _ _ (rw (← entered_count s (table_entry number t)) at l)) refl ∙ passed
 
-      pub early_fine : note_has s number ≡ false → length (new_entries s number t) ≤ most_entries → none ≡ early_refusal s number t
-      unfolding when unless
-      early_fine h l = rw (h, le-leb _ _ l) refl ∙ passed
+        pub early_fine : new_count (count_of s) (sought (seek_of s number) (count_of s)) ≤ most_entries → none ≡ early_refusal s number t
+        unfolding when unless new_entries
+        early_fine l = rw (h, le-leb _ _ (rw (← entered_count s (table_entry number t)) at l)) refl ∙ passed
 
   -- what it tells that none of these applies
   pub record Early : Type 0 where
@@ -61,10 +68,10 @@ module _ (s : List ℕ) (number : ℕ) (t : Table) where
     pub table : (table_refusal t).no ≡ 0
     pub few : length (new_entries s number t) ≤ most_entries
 
-  pub early_is_fine : (early_refusal s number t).no ≡ 0 → Early
+  pub early_is_fine : none ≡ early_refusal s number t → Early
   unfolding early_refusal
   early_is_fine h =
-      let a = first_fine (file_refusal s) (first (table_refusal t) place) h in
+      let a = first_fine (file_refusal s) (first (table_refusal t) place) (rw (← h)) in
       let b = first_fine (table_refusal t) place a.1 in
       let d = when_passed no (note_has s number) (refuse 17) _ 0 b.1 (eqb-false 17 0 refl) in
       let e = unless_passed no (leb (length (new_entries s number t)) most_entries) (refuse 11) none 0 d.1 (eqb-false 11 0 refl) in
@@ -72,18 +79,6 @@ module _ (s : List ℕ) (number : ℕ) (t : Table) where
 
 -- 9 and 19
 module _ (len room : ℕ) where
-  pub length_long : most_bytes < len → refuse 9 ≡ length_refusal len room
-  unfolding length_refusal unless
-  length_long h = rw (lt-leb _ _ h)
-
-  pub length_short : len ≤ most_bytes → room < len → refuse 19 ≡ length_refusal len room
-  unfolding length_refusal unless
-  length_short h g = rw (le-leb _ _ h, lt-leb _ _ g)
-
-  pub length_fits : len ≤ most_bytes → len ≤ room → none ≡ length_refusal len room
-  unfolding length_refusal unless
-  length_fits h g = rw (le-leb _ _ h, le-leb _ _ g)
-
   pub length_is_fine : (length_refusal len room).no ≡ 0 → (len ≤ most_bytes) × (len ≤ room)
   unfolding length_refusal
   length_is_fine h =
@@ -91,8 +86,16 @@ module _ (len room : ℕ) where
       let b = unless_passed no (leb len room) (refuse 19) none 0 a.1 (eqb-false 19 0 refl) in
       (leb-true _ _ a.0, leb-true _ _ b.0)
 
+  -- what an answer tells of the length
+  module _ (h : none ≡ length_refusal len room) where
+    pub length_short : len ≤ most_bytes
+    length_short = (length_is_fine (rw (← h))).0
+
+    pub length_room : len ≤ room
+    length_room = (length_is_fine (rw (← h))).1
+
 -- a refusal first of several
-first_first : (a b c : Refusal) → first (first a b) c ≡ first a (first b c)
+first_first : (a b c : Numbered) → first (first a b) c ≡ first a (first b c)
 unfolding first
 first_first a b c = go (eqb a.no 0) refl
   where
@@ -100,19 +103,19 @@ first_first a b c = go (eqb a.no 0) refl
     go true e = refl
     go false e = rw e
 
-first_when : (t : Bool) (k : ℕ) (b c : Refusal) → (k ≡ 0 → ⊥) → first (when t (refuse k) b) c ≡ when t (refuse k) (first b c)
+first_when : (t : Bool) (k : ℕ) (b c : Numbered) → (k ≡ 0 → ⊥) → first (when t (refuse k) b) c ≡ when t (refuse k) (first b c)
 unfolding first when
 first_when true k b c n = rw (ne_eqb k 0 n)
 first_when false k b c n = refl
 
-first_unless : (t : Bool) (k : ℕ) (b c : Refusal) → (k ≡ 0 → ⊥) → first (unless t (refuse k) b) c ≡ unless t (refuse k) (first b c)
+first_unless : (t : Bool) (k : ℕ) (b c : Numbered) → (k ≡ 0 → ⊥) → first (unless t (refuse k) b) c ≡ unless t (refuse k) (first b c)
 unfolding first unless
 first_unless true k b c n = refl
 first_unless false k b c n = rw (ne_eqb k 0 n)
 
 -- put's refusal: the early ones, then those of the length
 module _ (s : List ℕ) (number : ℕ) (t : Table) (room : ℕ) where
-  abbrev late : Refusal
+  abbrev late : Numbered
   late = length_refusal (length (new_file s number t)) room
 
   split : first (early_refusal s number t) late ≡ put_refusal s number t room

@@ -1,8 +1,7 @@
 -- The new file: "with the table of that number replaced in its place, or added as the last entry", and its refusals.
 use Rattle.std.specs.Prelude.{Bool, cond, ℕ, List, [], ◌∷◌, length, leb, eqb}
-use Rattle.refusal.specs.declared.Refusal.{Refusal}
+use Rattle.refusal.specs.Refusal.{Numbered, refuse, none}
 use Rattle.table.specs.declared.Table.{Table}
-use Rattle.refusal.specs.Refusal.{refuse, none}
 use Rattle.basics.specs.When.{when, unless}
 use Rattle.refusal.specs.Order.{first}
 use Rattle.file_entries.specs.Limits.{most_entries, most_bytes}
@@ -33,7 +32,7 @@ abbrev pub note_has : List ℕ → ℕ → Bool
 note_has s number = is_note (kind_under s number)
 
 -- "Put: the file, the new table 1 to 7, 17, then 11 for a 65th entry, 9 for a file grown too long, 19."
-unfoldable pub put_refusal : List ℕ → ℕ → Table → ℕ → Refusal
+unfoldable pub put_refusal : List ℕ → ℕ → Table → ℕ → Numbered
 put_refusal s number t room =
     first (file_refusal s)
     (first (table_refusal t)

@@ -1,5 +1,6 @@
 -- What is answered and left in the output, from the refusal at hand.
 use mathlib.Core.Path.{◌≡◌, refl, sym, ap, ap₂, ◌∙◌}
+use Rattle.std.proofs.Common.{Ok, Err}
 use mathlib.Core.Bool.{Bool, true, false, cond}
 use Prim.Native.Nat.{ℕ, ◌+◌, ◌≤◌}
 use native.Mathlib.Omega.{arith}
@@ -8,55 +9,62 @@ use lib.ListN.{length, take, drop}
 use lib.Dec.{eqb}
 use borrow.Author.Tests.{eq-eqb, ne_eqb, eqb-true}
 use Rattle.refusal.specs.declared.Refusal.{Refusal}
+use Rattle.refusal.specs.Refusal.{Numbered, none}
+use Rattle.refusal.specs.Told.{told}
+use Rattle.refusal.proofs.Told.{number_some}
 use Rattle.table.specs.declared.Table.{Table}
 use Rattle.file_bytes.specs.Over.{over}
 use Rattle.file_bytes.proofs.Overs.{over_start, take_over}
-use Rattle.basics.specs.Over.{Holds}
 use Rattle.table_row.specs.Limits.{most_rows}
 use Rattle.file_entries.specs.Limits.{most_entries}
 use Rattle.file_kinds.specs.Kinds.{table_kind}
-use Rattle.file_entries.specs.Entries.{count_of, seek_of}
+use Rattle.file_entries.specs.Entries.{count_of, sought, seek_of}
 use Rattle.file_contents.specs.File.{entry_by, encode}
-use Rattle.file_write.specs.Sources.{entries_by}
+use Rattle.file_write.specs.declared.Source.{Source}
+use Rattle.file_write.specs.declared.Parts.{Parts}
+use Rattle.file_write.specs.Sources.{entries_by, held, entries_in}
 use Rattle.file_bodies.specs.Layout.{body_length, most_body}
 use Rattle.file_bodies.specs.Body.{table_bytes}
 use Rattle.file_bodies.proofs.Writing.{length_table}
-use Rattle.file_put.specs.declared.Written.{Written}
 use Rattle.file_new.specs.New.{table_entry, new_entries, new_file, put_refusal}
-use Rattle.file_put.specs.Put.{put_of, put_out, Puts}
-use Rattle.file_new.specs.Steps.{source_of, new_count, early_refusal, length_refusal}
+use Rattle.file_put.specs.Put.{Written, written, put_of, put_out, Puts}
+use Rattle.file_new.specs.Steps.{Sources, new_count, early_refusal, length_refusal}
 use Rattle.file_put.specs.Writing.{written_of, written_over, Writes}
 use Rattle.file_new.proofs.Entered.{entered, entered_count}
 use Rattle.file_new.proofs.Steps.{put_early, put_late, length_is_fine}
 
-abbrev no : Refusal → ℕ
+abbrev no : Numbered → ℕ
 no r = r.no
 
-abbrev answer : Refusal → ℕ → Written
+abbrev answer : Numbered → ℕ → Written
 answer r n = record { refusal = r; length = n }
 
 -- the file is written, or it is not
-module _ (file before : List ℕ) (r : Refusal) (is : r ≡ length_refusal (length file) (length before)) where
-  pub writes_none : (r.no ≡ 0 → ⊥) → Writes file before before (answer r 0)
+module _ (file before : List ℕ) (len : ℕ) (l : len ≡ length file) where
+  pub writes_none : (r : Refusal) → told r ≡ length_refusal len (length before) → Writes file before before (written (Err r))
   unfolding written_of written_over
-  writes_none b =
-      let n = ne_eqb (length_refusal (length file) (length before)).no 0 (λ e. b (ap no is ∙ e)) in
-      record { answer = rw n (ap (λ (q : Refusal). answer q 0) is); output = rw n }
+  writes_none r e =
+      let is = e ∙ ap (λ (k : ℕ). length_refusal k (length before)) l in
+      let n = ne_eqb (length_refusal (length file) (length before)).no 0 (rw (← is) (number_some r.rule)) in
+      record { answer = rw n (ap (λ (q : Numbered). answer q 0) is); output = rw n }
 
-  pub writes_file : (after : List ℕ) (len : ℕ) → r.no ≡ 0 → len ≡ length file → after ≡ over before 0 file → Writes file before after (answer r len)
+  pub writes_file : (after : List ℕ) → none ≡ length_refusal len (length before) → after ≡ over before 0 file → Writes file before after (written (Ok len))
   unfolding written_of written_over
-  writes_file after len e l o =
-      let n = eq-eqb (length_refusal (length file) (length before)).no 0 (sym (ap no is) ∙ e) in
+  writes_file after e o =
+      let is = e ∙ ap (λ (k : ℕ). length_refusal k (length before)) l in
+      let n = eq-eqb (length_refusal (length file) (length before)).no 0 (sym (ap no is)) in
       record { answer = rw n (ap₂ answer is l); output = rw n o }
 
 -- the new file, by what the code works out
-pub file_is : (s : List ℕ) (number : ℕ) (t : Table) (b : List ℕ) (n : ℕ) (sources : List ℕ) → b ≡ table_bytes t → n ≡ new_count (count_of s) (seek_of s number)
-    → Holds (source_of (seek_of s number)) most_entries sources → length (new_entries s number t) ≤ most_entries
-    → encode (entries_by s (entry_by table_kind number b) (take n sources)) ≡ new_file s number t
+pub file_is : (s : List ℕ) (number : ℕ) (t : Table) (p : Parts) (b : List ℕ) (n : ℕ) (sources : List Source)
+    → p.old.now ≡ s → held p.new ≡ entry_by table_kind number b → p.sources.now ≡ take n sources → b ≡ table_bytes t → n ≡ new_count (count_of s) (sought (seek_of s number) (count_of s))
+    → Sources (seek_of s number) sources → length (new_entries s number t) ≤ most_entries
+    → encode (entries_in p) ≡ new_file s number t
 unfolding new_file new_entries
-file_is s number t b n sources p q h few =
+file_is s number t p b n sources old new list body many h few =
     let e = entered_count s (table_entry number t) in
-    (λ k. encode (entries_by s (entry_by table_kind number (p k)) (take (q k) sources)))
+    (λ k. encode (entries_by (old k) (new k) (list k)))
+    ∙ (λ k. encode (entries_by s (entry_by table_kind number (body k)) (take (many k) sources)))
     ∙ ap encode (entered s (table_entry number t) sources h (omega arith))
 
 -- the body in the buffer
@@ -67,21 +75,21 @@ buffer_is o t w few h =
     ap (λ (k : ℕ). take k (over o 0 (table_bytes t))) e ∙ take_over o 0 (table_bytes t) (omega arith)
 
 module _ (s : List ℕ) (number : ℕ) (t : Table) (before : List ℕ) where
-  pub puts_none : (r : Refusal) → r ≡ early_refusal s number t → (r.no ≡ 0 → ⊥) → Puts s number t before before (answer r 0)
+  pub puts_none : (r : Refusal) → told r ≡ early_refusal s number t → Puts s number t before before (written (Err r))
   unfolding put_of put_out
-  puts_none r is b =
-      let e = is ∙ put_early s number t (length before) (λ z. b (ap no is ∙ z)) in
-      let n = ne_eqb (put_refusal s number t (length before)).no 0 (λ z. b (ap no e ∙ z)) in
-      record { answer = rw n (ap (λ (q : Refusal). answer q 0) e); output = rw n }
+  puts_none r is =
+      let e = is ∙ put_early s number t (length before) (rw (← is) (number_some r.rule)) in
+      let n = ne_eqb (put_refusal s number t (length before)).no 0 (rw (← e) (number_some r.rule)) in
+      record { answer = rw n (ap (λ (q : Numbered). answer q 0) e); output = rw n }
 
-  pub puts_file : (after : List ℕ) (r : Written) → (early_refusal s number t).no ≡ 0 → Writes (new_file s number t) before after r → Puts s number t before after r
+  pub puts_file : (after : List ℕ) (r : Written) → none ≡ early_refusal s number t → Writes (new_file s number t) before after r → Puts s number t before after r
   unfolding put_of put_out written_of written_over
   puts_file after r e w =
       let file = new_file s number t in
-      let p = put_late s number t (length before) e in
+      let p = put_late s number t (length before) (rw (← e)) in
       record {
-        answer = w.answer ∙ ap (λ (q : Refusal). answer q (cond (eqb q.no 0) (length file) 0)) p;
-        output = w.output ∙ go (eqb (length_refusal (length file) (length before)).no 0) refl ∙ ap (λ (q : Refusal). cond (eqb q.no 0) (file ++ drop (length file) before) before) p;
+        answer = w.answer ∙ ap (λ (q : Numbered). answer q (cond (eqb q.no 0) (length file) 0)) p;
+        output = w.output ∙ go (eqb (length_refusal (length file) (length before)).no 0) refl ∙ ap (λ (q : Numbered). cond (eqb q.no 0) (file ++ drop (length file) before) before) p;
       }
     where
       go : (b : Bool) → eqb (length_refusal (length (new_file s number t)) (length before)).no 0 ≡ b

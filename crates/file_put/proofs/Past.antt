@@ -11,8 +11,7 @@ use lib.Dec.{leb, eqb}
 use borrow.Author.Tests.{ne_eqb, eqb-true, eqb-false}
 use Rattle.basics.specs.When.{when, unless}
 use Rattle.basics.proofs.Bools.{lt_or_ge}
-use Rattle.refusal.specs.declared.Refusal.{Refusal}
-use Rattle.refusal.specs.Refusal.{refuse, none}
+use Rattle.refusal.specs.Refusal.{Numbered, refuse, none}
 use Rattle.refusal.specs.Order.{first}
 use Rattle.refusal.proofs.Order.{first_here, first_fine}
 use Rattle.table_row.specs.declared.Row.{Row}
@@ -56,7 +55,7 @@ module _ (t u : Table) (alike : Alike t u) where
   bytes_same : (table_refusal t).no ≡ 0 → table_bytes t ≡ table_bytes u
   unfolding table_bytes
   bytes_same fine =
-      let other = sym (ap (λ (r : Refusal). r.no) refusal_same) ∙ fine in
+      let other = sym (ap (λ (r : Numbered). r.no) refusal_same) ∙ fine in
       let rows : take t.count t.rows ≡ take u.count u.rows =
       take_same t.rows u.rows t.count (rows_there t fine t.count (omega arith)) (rows_there u other t.count (omega (arith, alike.count))) alike.rows
       ∙ ap (λ (k : ℕ). take k u.rows) alike.count in
@@ -71,10 +70,10 @@ module _ (s : List ℕ) (number : ℕ) (t u : Table) (alike : Alike t u) where
   -- where nothing is put
   none_put : ((table_refusal t).no ≡ 0 → ⊥) → (room : ℕ) → (put_refusal s number t room ≡ put_refusal s number u room) × ((put_refusal s number u room).no ≡ 0 → ⊥)
   none_put n room =
-      let m : (table_refusal u).no ≡ 0 → ⊥ = λ z. n (ap (λ (r : Refusal). r.no) (refusal_same t u alike) ∙ z) in
+      let m : (table_refusal u).no ≡ 0 → ⊥ = λ z. n (ap (λ (r : Numbered). r.no) (refusal_same t u alike) ∙ z) in
       let e = refused_first s number u room m in (
         refused_first s number t room n ∙ ap (first (file_refusal s)) (refusal_same t u alike) ∙ sym e,
-        λ z. m (first_fine (file_refusal s) (table_refusal u) (sym (ap (λ (r : Refusal). r.no) e) ∙ z)).1,
+        λ z. m (first_fine (file_refusal s) (table_refusal u) (sym (ap (λ (r : Numbered). r.no) e) ∙ z)).1,
       )
 
   -- where the same entries are

@@ -5,9 +5,8 @@ use mathlib.Core.List.{List}
 use lib.ListN.{length}
 use borrow.Author.Tests.{ne_eqb}
 use Rattle.table.specs.declared.Table.{Table}
-use Rattle.file_put.specs.declared.Written.{Written}
 use Rattle.file_new.specs.New.{put_refusal}
-use Rattle.file_put.specs.Put.{put_of, put_out, Puts}
+use Rattle.file_put.specs.Put.{Written, put_of, put_out, Puts}
 
 pub put_refused_unchanged : (s : List ℕ) (number : ℕ) (t : Table) (before after : List ℕ) (r : Written) → Puts s number t before after r → (r.refusal.no ≡ 0 → ⊥)
     → (after ≡ before) × (r.length ≡ 0)

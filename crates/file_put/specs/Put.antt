@@ -1,8 +1,20 @@
 -- "Put writes to a lent output the file with the table of that number replaced in its place, or added as the last entry"
-use Rattle.std.specs.Prelude.{◌≡◌, cond, ℕ, List, ◌++◌, length, drop, eqb}
+use Rattle.std.specs.Prelude.{◌≡◌, Result, Ok, Err, cond, ℕ, List, ◌++◌, length, drop, eqb}
+use Rattle.refusal.specs.declared.Refusal.{Refusal}
+use Rattle.refusal.specs.Refusal.{Numbered, none}
+use Rattle.refusal.specs.Told.{told}
 use Rattle.table.specs.declared.Table.{Table}
 use Rattle.file_new.specs.New.{new_file, put_refusal}
-use Rattle.file_put.specs.declared.Written.{Written}
+
+-- the numbers of an answer: "it gives the length"
+pub record Written : Type 0 where
+  pub refusal : Numbered
+  pub length : ℕ
+
+-- this paper's numbers for each case of the answer
+abbrev pub written : Result ℕ Refusal → Written
+written (Ok n) = record { refusal = none; length = n }
+written (Err r) = record { refusal = told r; length = 0 }
 
 -- "it gives the length"; "All other numbers of a refused answer are 0: [..] put's length"
 unfoldable pub put_of : List ℕ → ℕ → Table → ℕ → Written

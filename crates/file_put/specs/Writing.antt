@@ -2,7 +2,7 @@
 use Rattle.std.specs.Prelude.{◌≡◌, cond, ℕ, List, length, eqb}
 use Rattle.file_bytes.specs.Over.{over}
 use Rattle.file_new.specs.Steps.{length_refusal}
-use Rattle.file_put.specs.declared.Written.{Written}
+use Rattle.file_put.specs.Put.{Written}
 
 -- what the writing of a file of len bytes answers
 unfoldable pub written_of : ℕ → ℕ → Written

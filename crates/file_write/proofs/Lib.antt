@@ -1,2 +1,2 @@
 -- The laws of writing a file from its sources.
-pub mod Sources
+pub mod Turns

@@ -1,3 +1,2 @@
 -- What a file is written from.
 pub mod Sources
-pub mod Parts

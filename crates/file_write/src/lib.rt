@@ -3,155 +3,110 @@
 
 ghost use Rattle.std.specs.Prelude.{◌≡◌, ◌+◌, ◌≤◌, length};
 ghost use Rattle.file_bytes.specs.Over.{over};
-ghost use Rattle.file_entries.specs.Limits.{most_entries, most_bytes, head_bytes, entry_bytes, after_entries};
-ghost use Rattle.file_entries.specs.Entries.{kind_at, number_at, body_at};
-ghost use Rattle.file_contents.specs.File.{entry_by, head_by, head_of, heads_of, encode};
-ghost use Rattle.file_write.specs.Sources.{by_source, source_entry, entries_by};
-ghost use Rattle.file_write.specs.Parts.{bodies_by, length_by, Room};
+ghost use Rattle.file_entries.specs.Limits.{most_entries, most_bytes, after_entries};
+ghost use Rattle.file_contents.specs.File.{head_of, encode};
 
 use file_entries::limits::FORM;
 
-// The source that stands for the new entry. Any other is an entry of the old file.
-pub const NEW: u16 = 0xFFFF;
+// Where an entry comes from: it is the new one, or the old file's of that number.
+#[derive(Clone, Copy, Debug, PartialEq, Eq)]
+pub enum Source {
+    New,
+    Old(u16),
+}
 
-// The kind of a source's entry.
-fn source_kind(s: &[u8], source: u16, kind: u16) -> u16
-    ensures { result ≡ by_source source kind (kind_at s.now) }
-{
-    if source == NEW {
-        return kind;
+// An entry with its body: its kind, its number and the bytes.
+#[derive(Clone, Copy)]
+pub struct Entry<'a> {
+    pub kind: u16,
+    pub number: u16,
+    pub body: &'a [u8],
+}
+
+// What a file is written from: an old file, a new entry, and the source of each entry in turn.
+#[derive(Clone, Copy)]
+pub struct Parts<'a> {
+    pub old: &'a [u8],
+    pub new: Entry<'a>,
+    pub sources: &'a [Source],
+    ghost few: { length sources.now ≤ most_entries },
+}
+
+impl<'a> Parts<'a> {
+    ghost use Rattle.file_write.specs.Sources.{held, entry_in, entries_in};
+
+    pub fn new(old: &'a [u8], new: Entry<'a>, sources: &'a [Source]) -> Parts<'a>
+        requires { length sources.now ≤ most_entries }
+        ensures old { result.old.now ≡ old.now }
+        ensures new { held result.new ≡ held new.entry }
+        ensures sources { result.sources.now ≡ sources.now }
+    {
+        Parts { old, new, sources }
     }
-    file_entries::kind_at(s, source)
-}
 
-fn source_number(s: &[u8], source: u16, number: u16) -> u16
-    ensures { result ≡ by_source source number (number_at s.now) }
-{
-    if source == NEW {
-        return number;
+    // A source's entry.
+    #[tactic(auto, unfolding(file_contents::specs::File::entry_at))]
+    fn entry(self, source: Source) -> Entry<'a>
+        ensures { held result ≡ entry_in self.entry source }
+    {
+        match source {
+            Source::New => self.new,
+            Source::Old(i) => {
+                let e = file_entries::Entry::read(self.old, i);
+                Entry {
+                    kind: e.kind,
+                    number: e.number,
+                    body: file_entries::body(self.old, i),
+                }
+            }
+        }
     }
-    file_entries::number_at(s, source)
-}
 
-fn source_body<'a>(s: &'a [u8], source: u16, b: &'a [u8]) -> &'a [u8]
-    ensures { result.now ≡ by_source source b.now (body_at s.now) }
-{
-    if source == NEW {
-        return b;
+    // How long the file is.
+    pub fn file_length(self) -> usize
+        requires old_short { length self.old.now ≤ most_bytes }
+        requires new_short { length self.new.body.now ≤ most_bytes }
+        ensures { result ≡ length (encode (entries_in self.entry)) }
+    {
+        let mut len = file_entries::after_entries(self.sources.len() as u16);
+        for source in self.sources {
+            len += self.entry(*source).body.len();
+        }
+        len
     }
-    file_entries::body(s, source)
-}
 
-// Writes the bytes of an entry at a place.
-fn put_head(out: &mut [u8], at: usize, kind: u16, number: u16, start: u16, len: u16, sum: u32)
-    requires { at + entry_bytes ≤ length out.old }
-    ensures { out.new ≡ over out.old at (head_by kind number start len sum) }
-{
-    file_bytes::put16(out, at, kind);
-    file_bytes::put16(out, at + 2, number);
-    file_bytes::put16(out, at + 4, start);
-    file_bytes::put16(out, at + 6, len);
-    file_bytes::put16(out, at + 8, (sum % 65536) as u16);
-    file_bytes::put16(out, at + 10, (sum / 65536) as u16);
-}
-
-// Writes the head of a source's entry as entry j, whose body starts at a place.
-fn write_head<'a>(
-    out: &mut [u8],
-    s: &'a [u8],
-    source: u16,
-    kind: u16,
-    number: u16,
-    b: &'a [u8],
-    j: u16,
-    start: usize,
-)
-    requires { (start + length (by_source source b.now (body_at s.now)) ≤ most_bytes) × (after_entries (j + 1) ≤ length out.old) }
-    ensures { out.new ≡ over out.old (after_entries j) (head_of start (source_entry s.now (entry_by kind number b.now) source)) }
-{
-    let p = source_body(s, source, b);
-    let own_kind = source_kind(s, source, kind);
-    let own_number = source_number(s, source, number);
-    let sum = file_bytes::body_sum(p);
-    let at = file_entries::after_entries(j);
-    put_head(
-        out,
-        at,
-        own_kind,
-        own_number,
-        start as u16,
-        p.len() as u16,
-        sum,
-    );
-}
-
-// Writes the heads of the entries.
-fn write_heads<'a>(
-    out: &mut [u8],
-    s: &'a [u8],
-    sources: &[u16],
-    kind: u16,
-    number: u16,
-    b: &'a [u8],
-)
-    requires { Room s.now b.now sources.now out.old }
-    ensures { out.new ≡ over out.old head_bytes (heads_of (after_entries (length sources.now)) (entries_by s.now (entry_by kind number b.now) sources.now)) }
-{
-    let mut start = file_entries::after_entries(sources.len() as u16);
-    let mut j: usize = 0;
-    while j < sources.len() {
-        let source = sources[j];
-        write_head(out, s, source, kind, number, b, j as u16, start);
-        let p = source_body(s, source, b);
-        start = start + p.len();
-        j += 1;
+    // Writes a source's entry as entry j: its head, and its body at a place. Gives where the next body starts.
+    fn write_entry(self, out: &mut [u8], j: u16, source: Source, start: usize) -> usize
+        requires head { after_entries (j + 1) ≤ length out.old }
+        requires short { start + length (entry_in self source).body ≤ most_bytes }
+        requires room { start + length (entry_in self source).body ≤ length out.old }
+        ensures written { let e = entry_in self.entry source in out.new ≡ over (over out.old (after_entries j) (head_of start e)) start e.body }
+        ensures next { result ≡ start + length (entry_in self.entry source).body }
+    {
+        let entry = self.entry(source);
+        let at = file_entries::after_entries(j);
+        let sum = file_bytes::body_sum(entry.body);
+        file_bytes::put16(out, at, entry.kind);
+        file_bytes::put16(out, at + 2, entry.number);
+        file_bytes::put16(out, at + 4, start as u16);
+        file_bytes::put16(out, at + 6, entry.body.len() as u16);
+        file_bytes::put16(out, at + 8, (sum % 65536) as u16);
+        file_bytes::put16(out, at + 10, (sum / 65536) as u16);
+        file_bytes::put_bytes(out, start, entry.body);
+        start + entry.body.len()
     }
-}
 
-// Writes the bodies of the entries.
-fn write_bodies<'a>(out: &mut [u8], s: &'a [u8], sources: &[u16], b: &'a [u8])
-    requires { Room s.now b.now sources.now out.old }
-    ensures { out.new ≡ over out.old (after_entries (length sources.now)) (bodies_by s.now b.now sources.now) }
-{
-    let mut start = file_entries::after_entries(sources.len() as u16);
-    let mut j: usize = 0;
-    while j < sources.len() {
-        let p = source_body(s, sources[j], b);
-        file_bytes::put_bytes(out, start, p);
-        start = start + p.len();
-        j += 1;
+    // Writes the file.
+    pub fn write_file(self, out: &mut [u8])
+        requires short { length (encode (entries_in self)) ≤ most_bytes }
+        requires room { length (encode (entries_in self)) ≤ length out.old }
+        ensures { out.new ≡ over out.old 0 (encode (entries_in self.entry)) }
+    {
+        file_bytes::put16(out, 0, self.sources.len() as u16);
+        file_bytes::put16(out, 2, FORM);
+        let mut start = file_entries::after_entries(self.sources.len() as u16);
+        for (j, source) in self.sources.iter().enumerate() {
+            start = self.write_entry(out, j as u16, *source, start);
+        }
     }
-}
-
-// How long the file of the sources is.
-pub fn file_length<'a>(s: &'a [u8], sources: &[u16], b: &'a [u8]) -> usize
-    requires { (length sources.now ≤ most_entries) × (length s.now ≤ most_bytes) × (length b.now ≤ most_bytes) }
-    ensures { result ≡ length_by s.now b.now sources.now }
-{
-    let mut len = file_entries::after_entries(sources.len() as u16);
-    let mut j: usize = 0;
-    while j < sources.len() {
-        let p = source_body(s, sources[j], b);
-        len = len + p.len();
-        j += 1;
-    }
-    len
-}
-
-// Writes the file of the sources.
-pub fn write_file<'a>(
-    out: &mut [u8],
-    s: &'a [u8],
-    sources: &[u16],
-    kind: u16,
-    number: u16,
-    b: &'a [u8],
-)
-    requires { Room s.now b.now sources.now out.old }
-    ensures { out.new ≡ over out.old 0 (encode (entries_by s.now (entry_by kind number b.now) sources.now)) }
-{
-    file_bytes::put16(out, 0, sources.len() as u16);
-    file_bytes::put16(out, 2, FORM);
-    write_heads(out, s, sources, kind, number, b);
-    write_bodies(out, s, sources, b);
 }

@@ -1,5 +1,5 @@
--- A line: its length is 0 exactly where it is three zeros, and else it is the least failing length.
-use mathlib.Core.Path.{◌≡◌, refl, sym, ◌∙◌}
+-- A line: its length is the least failing length, and where that is none it is three zeros.
+use mathlib.Core.Path.{◌≡◌, refl, sym}
 use mathlib.Core.Bool.{Bool, true, false, cond}
 use Prim.Native.Nat.{ℕ, ◌<◌}
 use native.Mathlib.Omega.{arith}
@@ -20,10 +20,6 @@ module _ (M : Model) (A : Map) (h : ℕ) where
           → (cond b no_line (record { t = least_failing M A h; work = work_due M (least_failing M A h); supply = supply M A (least_failing M A h) })).t ≡ least_failing M A h
       go true e = sym (eqb-true _ _ e)
       go false e = refl
-
-  pub line_none : (line_of M A h).t ≡ 0 → line_of M A h ≡ no_line
-  unfolding line_of
-  line_none e = let z : least_failing M A h ≡ 0 = sym line_t ∙ e in rw z
 
   pub line_some : 0 < (line_of M A h).t → ((line_of M A h).work ≡ work_due M (least_failing M A h)) × ((line_of M A h).supply ≡ supply M A (least_failing M A h))
   unfolding line_of

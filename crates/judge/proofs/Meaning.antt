@@ -21,10 +21,12 @@ use Rattle.sets.specs.Word.{words}
 use Rattle.sets.proofs.Words.{member_word, word_none}
 use Rattle.basics.proofs.Tabled.{filled_at}
 use Rattle.table.specs.declared.Table.{Table}
-use Rattle.refusal.specs.declared.Refusal.{Refusal}
+use Rattle.refusal.specs.Refusal.{Numbered}
 use Rattle.table.specs.Meaning.{model_of}
 use Rattle.table.proofs.Accepted.{sound_model}
 use Rattle.judge_scan.specs.Lines.{line_of}
+use Rattle.refusal.specs.declared.Refusal.{Refusal}
+use Rattle.std.specs.Prelude.{Result}
 use Rattle.judge.specs.declared.Verdict.{Verdict}
 use Rattle.judge.specs.After.{map_after, pins_after}
 use Rattle.judge.specs.Judge.{Numbers, line_in, given, numbers, infeasible, Judged}
@@ -32,7 +34,7 @@ use Rattle.judge.specs.Meaning.{map_at, Fails, Shown, InWords}
 use Rattle.judge.proofs.Lines.{line_t, line_some}
 use Rattle.judge.proofs.Outcomes.{Given, Withheld, judge_outcome}
 
-module _ (t : Table) (map pins map' pins' : List ℕ) (r : Verdict) (j : Judged t map pins map' pins' r) where
+module _ (t : Table) (map pins map' pins' : List ℕ) (r : Result Verdict Refusal) (j : Judged t map pins map' pins' r) where
   abbrev M : Model
   M = model_of t
 
@@ -46,7 +48,7 @@ module _ (t : Table) (map pins map' pins' : List ℕ) (r : Verdict) (j : Judged 
   On h = Given t (length map) (length pins) h
 
   -- what is no refusal is a verdict on the frame
-  on_frame : ((q : Refusal) → Withheld t (length map) (length pins) q → ⊥) → On H
+  on_frame : ((q : Numbered) → Withheld t (length map) (length pins) q → ⊥) → On H
   on_frame f =
       ⊎_elim
       (λ g. rw (ap (λ (n : Numbers). n.frame) (j.answer ∙ g.1.answer)) g.1)
@@ -103,13 +105,13 @@ module _ (t : Table) (map pins map' pins' : List ℕ) (r : Verdict) (j : Judged 
   unfolding map_after
   map_left e s l =
       let g = verdict_given e in
-      rw (j.map_is, ap (λ (q : Refusal). q.no) g.accepts, g.frame) (filled_at _ (numbers r).frame map s l)
+      rw (j.map_is, ap (λ (q : Numbered). q.no) g.accepts, g.frame) (filled_at _ (numbers r).frame map s l)
 
   pub pins_left : (numbers r).refusal.no ≡ 0 → (s : ℕ) → s < (numbers r).frame → get_or pins' s 0 ≡ words (model_of t) (pinned_at (model_of t) (t.depth - 1)) s
   unfolding pins_after
   pins_left e s l =
       let g = verdict_given e in
-      rw (j.pins_is, ap (λ (q : Refusal). q.no) g.accepts, g.frame) (filled_at _ (numbers r).frame pins s l)
+      rw (j.pins_is, ap (λ (q : Numbered). q.no) g.accepts, g.frame) (filled_at _ (numbers r).frame pins s l)
 
   -- "or zeros when x is 1"
   pub pins_zero : (numbers r).refusal.no ≡ 0 → t.depth ≡ 1 → (s : ℕ) → s < (numbers r).frame → get_or pins' s 0 ≡ 0

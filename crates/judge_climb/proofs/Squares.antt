@@ -1,21 +1,21 @@
 -- Squares, line by line.
-use mathlib.Core.Path.{◌≡◌, refl, sym, ap, ap₂, ◌∙◌}
-use mathlib.Core.List.{List, [], ◌∷◌, map}
+use mathlib.Core.Path.{◌≡◌, refl, sym, ap, ◌∙◌}
+use mathlib.Core.List.{List, [], map}
 use mathlib.Core.Logic.{⊎_elim}
-use Prim.Native.Nat.{ℕ, zero, suc, ◌+◌, ◌-◌, ◌≤◌, ◌<◌}
-use native.Mathlib.Nat.{eq-or-lt_of_le, le_of_suc-le-suc, not-suc-le-zero}
+use Prim.Native.Nat.{ℕ, suc, ◌+◌, ◌≤◌, ◌<◌}
+use native.Mathlib.Nat.{eq-or-lt_of_le, le_of_suc-le-suc}
 use native.Mathlib.Omega.{arith}
 use lib.Dec.{eqb}
-use lib.ListN.{length, get_or, set, length-set}
+use lib.ListN.{length, get_or, set}
 use lib.Seq.{ext_get_or, get_or-set_same, get_or-set_other}
 use borrow.Author.Tests.{eqb-true}
+use Rattle.std.proofs.lemmas.List.{get_or-map}
 use Rattle.basics.specs.Sum.{all}
 use Rattle.model.specs.Model.{Model}
 use Rattle.basics.proofs.Sums.{all_at}
-use Rattle.judge_scan.specs.declared.Line.{Line}
 use Rattle.judge_scan.specs.Lines.{no_line, line_at}
 use Rattle.judge_climb.specs.Lines.{depths, lines_of}
-use Rattle.judge_climb.specs.Core.{three, to_line, square_of, Repeated, Spelled}
+use Rattle.judge_climb.specs.Core.{three, to_line, square_of}
 use Rattle.table_row.specs.Limits.{most_depths}
 
 -- what holds of the lines below k, and of line k after a store, holds of those below k + 1
@@ -27,29 +27,6 @@ module _ {A : Type 0} (d : A) (k : ℕ) (new : List A) (v : A) (P : ℕ → A �
       (λ (h : y < k). rw (get_or-set_other new k y v d (λ (z : y ≡ k). omega arith)) (f y h))
       (eq-or-lt_of_le (le_of_suc-le-suc (let h : suc y ≤ suc k = omega arith in h)))
 
--- a line more
-pub repeated_more : {from k : ℕ} {old new : List (List ℕ)} {v : List ℕ} → Repeated from k old new → from ≤ k → k < most_depths → v ≡ get_or old (from - 1) []
-    → Repeated from (k + 1) old (set new k v)
-repeated_more {from} {k} {old} {new} {v} r l g e = record {
-  len = length-set new k v ∙ r.len;
-  low = λ y h. get_or-set_other new k y v [] (λ (z : y ≡ k). omega arith) ∙ r.low y h;
-  high = λ y h j.
-      store_more [] k new v (λ (y : ℕ) (x : List ℕ). from ≤ y → x ≡ get_or old (from - 1) []) (omega (arith, r.len)) (λ y j h. r.high y h j) (λ h. e) y j h;
-}
-
-pub told_more : {k : ℕ} {square : List (List ℕ)} {lines : List Line} {v : Line} → Spelled k square lines → k < most_depths → v ≡ to_line (get_or square k [])
-    → Spelled (k + 1) square (set lines k v)
-told_more {k} {square} {lines} {v} r g e = record {
-  len = length-set lines k v ∙ r.len;
-  at = store_more no_line k lines v (λ (y : ℕ) (x : Line). x ≡ to_line (get_or square y [])) (omega (arith, r.len)) r.at e;
-}
-
--- an element of a list, by a rule
-nth_map : {A B : Type 0} (f : A → B) (l : List A) (y : ℕ) (d : A) (e : B) → y < length l → get_or (map f l) y e ≡ f (get_or l y d)
-nth_map f [] y d e l = absurd (not-suc-le-zero l)
-nth_map f (x ∷ xs) zero d e l = refl
-nth_map f (x ∷ xs) (suc y) d e l = nth_map f xs y d e (le_of_suc-le-suc l)
-
 depth_at : (y : ℕ) → y < most_depths → get_or depths y 0 ≡ suc y
 unfolding all
 depth_at y l = eqb-true _ _ (all_at most_depths (λ y. eqb (get_or depths y 0) (suc y)) refl y l)
@@ -58,11 +35,11 @@ module _ (M : Model) (h : ℕ) where
   -- the line of depth y + 1 stands at y
   pub lines_at : (y : ℕ) → y < most_depths → get_or (lines_of M h) y no_line ≡ line_at M (suc y) h
   unfolding lines_of
-  lines_at y l = nth_map (λ y. line_at M y h) depths y 0 no_line l ∙ ap (λ (y : ℕ). line_at M y h) (depth_at y l)
+  lines_at y l = get_or-map (λ y. line_at M y h) depths y 0 no_line l ∙ ap (λ (y : ℕ). line_at M y h) (depth_at y l)
 
   square_at : (y : ℕ) → y < most_depths → get_or (square_of M h) y [] ≡ three (line_at M (suc y) h)
   unfolding square_of lines_of
-  square_at y l = nth_map three (lines_of M h) y no_line [] l ∙ ap three (lines_at y l)
+  square_at y l = get_or-map three (lines_of M h) y no_line [] l ∙ ap three (lines_at y l)
 
   -- eight lines, each that of its depth, are the square
   pub square_is : (q : List (List ℕ)) → length q ≡ most_depths → ((y : ℕ) → y < most_depths → get_or q y [] ≡ three (line_at M (suc y) h)) → q ≡ square_of M h
@@ -70,18 +47,11 @@ module _ (M : Model) (h : ℕ) where
   square_is q e f = ext_get_or [] q (square_of M h) e (λ y l. let k : y < most_depths = rw e at l in f y k ∙ sym (square_at y k))
 
   -- and told they are the lines
-  pub lines_told : (q : List (List ℕ)) (r : List Line) → q ≡ square_of M h → Spelled most_depths q r → r ≡ lines_of M h
-  unfolding lines_of
-  lines_told q r e t =
-      ext_get_or no_line r (lines_of M h) t.len (λ y l.
-      let k : y < most_depths = rw t.len at l in
-      t.at y k ∙ ap (λ (q : List (List ℕ)). to_line (get_or q y [])) e ∙ ap to_line (square_at y k) ∙ sym (lines_at y k))
+  pub lines_told : map to_line (square_of M h) ≡ lines_of M h
+  unfolding square_of lines_of
+  lines_told = refl
 
 -- models with the same line at every depth have the same lines
 pub lines_ext : (M N : Model) (h : ℕ) → ((y : ℕ) → line_at M y h ≡ line_at N y h) → lines_of M h ≡ lines_of N h
 unfolding lines_of
-lines_ext M N h e = over depths
-  where
-    over : (l : List ℕ) → map (λ y. line_at M y h) l ≡ map (λ y. line_at N y h) l
-    over [] = refl
-    over (y ∷ l) = ap₂ (λ (a : Line) (b : List Line). a ∷ b) (e y) (over l)
+lines_ext M N h e = simp e

@@ -8,7 +8,7 @@ use Rattle.table.specs.Meaning.{model_of}
 use Rattle.judge_deepen.specs.Reached.{Reached}
 use Rattle.sets.specs.Word.{words}
 use Rattle.judge_scan.specs.declared.Line.{Line}
-use Rattle.judge_scan.specs.Lines.{no_line, line_of, line_at}
+use Rattle.judge_scan.specs.Lines.{line_of, line_at}
 use Rattle.judge_climb.specs.Lines.{lines_of}
 
 -- "t, work and supply"
@@ -35,11 +35,6 @@ pub record Repeated (from to : ℕ) (old new : List (List ℕ)) : Type 0 where
   pub len : length new ≡ most_depths
   pub low : (k : ℕ) → k < from → get_or new k [] ≡ get_or old k []
   pub high : (k : ℕ) → from ≤ k → k < to → get_or new k [] ≡ get_or old (from - 1) []
-
--- the first k lines of the square as small structs
-pub record Spelled (k : ℕ) (square : List (List ℕ)) (lines : List Line) : Type 0 where
-  pub len : length lines ≡ most_depths
-  pub at : (y : ℕ) → y < k → get_or lines y no_line ≡ to_line (get_or square y [])
 
 -- the square, and both lists at depth 8
 pub record Climbed (t : Table) (h : ℕ) (map pins map' pins' : List ℕ) (r : List (List ℕ)) : Type 0 where

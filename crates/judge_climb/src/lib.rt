@@ -3,27 +3,30 @@
 
 ghost use Rattle.std.specs.Prelude.{◌≡◌, ◌≤◌, length};
 ghost use Rattle.table_row.specs.Limits.{most_depths};
-ghost use Rattle.judge_scan.specs.Lines.{Scannable};
-ghost use Rattle.judge_admit.specs.Admit.{Admitted};
+ghost use Rattle.judge_scan.specs.Lines.{line_or_zeros};
 ghost use Rattle.judge_climb.specs.Core.{three, Repeated, Measured, Begun, Climbed};
 
 use judge_scan::Line;
 use sets::Set;
-use table::Table;
+use table::framed::Framed;
 use table_row::limits::DEPTHS;
 
-fn three(l: Line) -> [u32; 3]
-    ensures { result ≡ three l }
+// "t, work and supply, or three zeros for undecided". Both types are of other crates, so this is no impl of From.
+fn three(l: Option<Line>) -> [u32; 3]
+    ensures { result ≡ three (line_or_zeros l) }
 {
-    [l.t, l.work, l.supply]
+    match l {
+        Some(l) => [l.t, l.work, l.supply],
+        None => [0; 3],
+    }
 }
 
-// The three numbers of the map that a list holds, on the frame h of an accepted table.
-fn measure(t: Table, h: usize, map: &[Set]) -> [u32; 3]
-    requires { Scannable t h map.now }
-    ensures { Measured t h map.now result }
+// The three numbers of the map that a list holds.
+fn measure(a: Framed, map: &[Set]) -> [u32; 3]
+    requires { a.frame ≤ length map.now }
+    ensures { Measured a.table a.frame map.now result }
 {
-    three(judge_scan::scan(t, h, map))
+    three(judge_scan::scan(a, map))
 }
 
 // From a place on, every line is the one before that place.
@@ -32,39 +35,32 @@ fn repeated(square: [[u32; 3]; 8], from: usize) -> [[u32; 3]; 8]
     ensures { Repeated from most_depths square result }
 {
     let mut all = square;
-    let last = square[from - 1];
-    let mut k: usize = from;
-    while k < DEPTHS {
-        all[k] = last;
-        k += 1;
-    }
+    all[from..].fill(square[from - 1]);
     all
 }
 
 // Both lists at depth 1, and the numbers of that depth.
-fn first(t: Table, h: usize, map: &mut [Set], pins: &mut [Set]) -> [u32; 3]
-    requires { Admitted t (length map.old) (length pins.old) h }
-    ensures { Begun t h map.old pins.old map.new pins.new result }
+fn first(a: Framed, map: &mut [Set], pins: &mut [Set]) -> [u32; 3]
+    requires { (a.frame ≤ length map.old) × (a.frame ≤ length pins.old) }
+    ensures { Begun a.table a.frame map.old pins.old map.new pins.new result }
 {
-    judge_first::first_map(t, h, map);
-    sets::clear(pins, h);
-    measure(t, h, map)
+    judge_first::first_map(a, map);
+    sets::clear(pins, a.frame as usize);
+    measure(a, map)
 }
 
 // The square of an accepted table, one depth after another, with both lists at depth 8. A depth that changed nothing is as deep as any later one.
-pub fn climb(t: Table, h: usize, map: &mut [Set], pins: &mut [Set]) -> [[u32; 3]; 8]
-    requires { Admitted t (length map.old) (length pins.old) h }
-    ensures { Climbed t h map.old pins.old map.new pins.new result }
+pub fn climb(a: Framed, map: &mut [Set], pins: &mut [Set]) -> [[u32; 3]; 8]
+    requires { (a.frame ≤ length map.old) × (a.frame ≤ length pins.old) }
+    ensures { Climbed a.table a.frame map.old pins.old map.new pins.new result }
 {
     let mut square = [[0u32; 3]; 8];
-    square[0] = first(t, h, map, pins);
-    let mut y: usize = 1;
-    while y < DEPTHS {
-        if !judge_deepen::deepen(t, h, map, pins) {
+    square[0] = first(a, map, pins);
+    for y in 1..DEPTHS {
+        if !judge_deepen::deepen(a, map, pins) {
             return repeated(square, y);
         }
-        square[y] = measure(t, h, map);
-        y += 1;
+        square[y] = measure(a, map);
     }
     square
 }

@@ -5,7 +5,7 @@ use mathlib.Core.List.{List}
 use mathlib.Core.Logic.{⊎_elim}
 use Prim.Native.Nat.{ℕ}
 use Rattle.model.specs.Model.{Model, Map}
-use Rattle.basics.proofs.Bools.{test}
+use Rattle.std.proofs.lemmas.Bool.{cases_Bool}
 use Rattle.basics.specs.Over.{Holds, Same}
 use Rattle.basics.proofs.Overs.{over_once}
 use Rattle.judge_deepen.specs.Reached.{Reached}
@@ -34,9 +34,9 @@ module _ (M : Model) (h : ℕ) {map pins map₁ pins₁ map₂ pins₂ : List �
 
       flags : one ≡ two
       flags =
-          ⊎_elim (λ e. ⊎_elim (λ f. e ∙ sym f) (λ f. to_one f ∙ sym f) (test two))
+          ⊎_elim (λ e. ⊎_elim (λ f. e ∙ sym f) (λ f. to_one f ∙ sym f) (cases_Bool two))
           (λ e. e ∙ sym (to_two e))
-          (test one)
+          (cases_Bool one)
 
   pub deep_determined : (x : ℕ) → Reached M x h map pins map₁ pins₁ → Reached M x h map pins map₂ pins₂ → (map₁ ≡ map₂) × (pins₁ ≡ pins₂)
   deep_determined x p q = (over_once p.available_sets q.available_sets, over_once p.pinned_sets q.pinned_sets)

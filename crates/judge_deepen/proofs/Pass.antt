@@ -1,6 +1,6 @@
 -- The rows one after another: from the sets with few enough rows to the pinned sets, and from a map to the next.
 use mathlib.Core.Path.{◌≡◌, refl, sym, ap, ap₂, ◌∙◌}
-use mathlib.Core.Bool.{Bool, true, false, cond, ◌&&◌, ◌||◌, true≢false, false≢true}
+use mathlib.Core.Bool.{Bool, true, false, cond, ◌&&◌, ◌||◌, true≢false, false≢true, and-true, and-false}
 use mathlib.Core.List.{List}
 use mathlib.Core.Logic.{⊎_elim}
 use Prim.Native.Nat.{ℕ, ◌+◌, ◌%◌, ◌<◌}
@@ -10,7 +10,7 @@ use lib.ListN.{get_or}
 use Rattle.model.specs.Model.{Model, Sound, Map}
 use Rattle.model.specs.Pins.{size, pinned}
 use Rattle.model.specs.Depths.{next}
-use Rattle.basics.proofs.Bools.{or_cases, test}
+use Rattle.std.proofs.lemmas.Bool.{or_cases, cases_Bool}
 use Rattle.sets.specs.Word.{word, member, put, up_to, words}
 use Rattle.sets.proofs.Words.{word_ext, word_none, member_word, put_same}
 use Rattle.basics.specs.Over.{Over, Holds, Same}
@@ -19,7 +19,6 @@ use Rattle.judge_deepen.specs.Step.{Shrinking, Step}
 use Rattle.judge_first.proofs.Sequential.{row_of, Sequential, size_word}
 use Rattle.judge_jobs.specs.First.{in_slot}
 use Rattle.judge_jobs.specs.Passes.{row_pin, row_map, RowDone}
-use Rattle.judge_jobs.proofs.Tally.{and_with_true, and_with_false}
 use Rattle.judge_deepen.proofs.Pinned.{few_enough, row_pinned, row_next}
 use Rattle.judge_deepen.proofs.Mix.{mix, mix_none, mix_all, mix_here, mix_put}
 
@@ -96,8 +95,8 @@ few_word {M} q A s e =
     (go (leb (size M A s) (M.capacity s)) ∙ word_ext M.rows (λ i l. sym (mix_none (pinned M A s) (few_enough M A s) i)))
   where
     go : (b : Bool) → cond b (word M.rows (A s)) 0 ≡ word M.rows (λ i. A s i && b)
-    go true = word_ext M.rows (λ i l. sym (and_with_true (A s i)))
-    go false = sym (word_ext M.rows (λ i l. and_with_false (A s i)) ∙ word_none M.rows)
+    go true = word_ext M.rows (λ i l. sym (and-true (A s i)))
+    go false = sym (word_ext M.rows (λ i l. and-false (A s i)) ∙ word_none M.rows)
 
 -- before the first row's pass
 pub first_pass : (M : Model) (A : Map) (h : ℕ) {m : ℕ} {P P' A₀ : List ℕ} → Sequential M m
@@ -116,7 +115,7 @@ last_pass M A h {f} {P} {P'} {P''} {A₀} {A'} {x} {n} e held q r' = record {
   pinned_sets = over_then q (over_ext r.pins (λ s z l. word_ext M.rows (mix_all M.rows (pinned M A s) (few_enough M A s))));
   next_sets = maps;
   still = r.still;
-  told = λ z. ⊎_elim (λ t. absurd (same z (r.moved t))) (λ t. t) (test x);
+  told = λ z. ⊎_elim (λ t. absurd (same z (r.moved t))) (λ t. t) (cases_Bool x);
 }
   where
     r : Passed M A M.rows h P' P'' A₀ A' x

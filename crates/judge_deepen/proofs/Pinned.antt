@@ -1,18 +1,16 @@
 -- A row's passes are the model's: the first C slots of a window whose sets have few enough rows are the pinned ones, and a job with C of them keeps those alone.
 use mathlib.Core.Path.{◌≡◌, refl, sym, ap, ◌∙◌}
-use mathlib.Core.Bool.{Bool, true, false, not, cond, ◌&&◌, ◌||◌}
-use mathlib.Core.Logic.{⊎_elim}
+use mathlib.Core.Bool.{Bool, true, false, not, cond, ◌&&◌, ◌||◌, and_assoc}
 use Prim.Native.Nat.{ℕ, zero, suc, ◌+◌, ◌-◌, ◌*◌, ◌/◌, ◌%◌, ◌≤◌, ◌<◌, min}
 use native.Mathlib.Nat.{div-add-mod'}
 use native.Mathlib.Omega.{arith}
 use lib.Dec.{leb, ltb}
-use borrow.Author.Tests.{lt-ltb, le-ltb, le-leb, lt-leb}
+use Rattle.std.proofs.lemmas.Bool.Decides.{nat_tests}
 use Rattle.basics.specs.Sum.{bit}
 use Rattle.model.specs.Model.{Model, Map}
 use Rattle.model.specs.Windows.{window}
 use Rattle.model.specs.Pins.{size, pin, pins, pinned}
 use Rattle.model.specs.Depths.{full, next}
-use Rattle.basics.proofs.Bools.{clash, lt_or_ge}
 use Rattle.model.proofs.Stop.{frame_room}
 use Rattle.judge_first.proofs.Sequential.{row_of}
 use Rattle.judge_jobs.specs.First.{tally, first}
@@ -25,39 +23,17 @@ few_enough M A s i = A s i && leb (size M A s) (M.capacity s)
 
 -- ---- counting no further than c
 min_step : (c n : ℕ) (b : Bool) → min c n + bit (b && ltb (min c n) c) ≡ min c (n + bit b)
-min_step c n false = omega arith
-min_step c n true = ⊎_elim few many (lt_or_ge n c)
-  where
-    few : n < c → min c n + bit (ltb (min c n) c) ≡ min c (n + 1)
-    few l = rw (lt-ltb (min c n) c (omega arith)) (omega arith)
-
-    many : c ≤ n → min c n + bit (ltb (min c n) c) ≡ min c (n + 1)
-    many l = rw (le-ltb (min c n) c (omega arith)) (omega arith)
+min_step c n b = grind (arith, nat_tests)
 
 min_ltb : (c n : ℕ) → ltb (min c n) c ≡ ltb n c
-min_ltb c n = ⊎_elim (λ l. rw (lt-ltb n c l) (lt-ltb (min c n) c (omega arith))) (λ l. rw (le-ltb n c l) (le-ltb (min c n) c (omega arith))) (lt_or_ge n c)
+min_ltb c n = grind (arith, nat_tests)
 
 min_leb : (c n : ℕ) → leb c (min c n) ≡ leb c n
-min_leb c n = ⊎_elim (λ l. rw (lt-leb c n l) (lt-leb c (min c n) (omega arith))) (λ l. rw (le-leb c n l) (le-leb c (min c n) (omega arith))) (lt_or_ge n c)
-
--- ---- bools
-and_assoc : (x y z : Bool) → x && (y && z) ≡ (x && y) && z
-and_assoc true y z = refl
-and_assoc false y z = refl
-
-or_none : (x : Bool) → x ≡ x || false
-or_none true = refl
-or_none false = refl
-
-or_all : (x : Bool) → true ≡ x || true
-or_all true = refl
-or_all false = refl
+min_leb c n = grind (arith, nat_tests)
 
 -- the map that is not there outside the windows, and whose next is inside it
 choice : (w f p a : Bool) → (w ≡ false → a ≡ false) → (w && (p || not f) ≡ true → a ≡ true) → cond w (cond f p a) a ≡ w && (p || not f)
-choice false f p a g k = g refl
-choice true true p a g k = or_none p
-choice true false p a g k = k (sym (or_all p)) ∙ or_all p
+choice w f p a g k = grind arith
 
 -- ---- a row
 module _ (M : Model) (A : Map) (i : ℕ) where
@@ -69,7 +45,7 @@ module _ (M : Model) (A : Map) (i : ℕ) where
       let p : ℕ → Bool = λ s. few_enough M A s i in
       let b = j * M.period i in
       rw (tally_suc p b o, pins_tally j o)
-      (ap (λ (x : Bool). min (M.execution i) (tally p b o) + bit x) (and_assoc (A (b + o) i) (leb (size M A (b + o)) (M.capacity (b + o))) (ltb (min (M.execution i) (tally p b o)) (M.execution i)))
+      (ap (λ (x : Bool). min (M.execution i) (tally p b o) + bit x) (sym (and_assoc (A (b + o) i) (leb (size M A (b + o)) (M.capacity (b + o))) (ltb (min (M.execution i) (tally p b o)) (M.execution i))))
       ∙ min_step (M.execution i) (tally p b o) (p (b + o)))
 
   first_pinned : (s : ℕ) → first (M.execution i) (λ s. few_enough M A s i) (s / M.period i * M.period i) s ≡ pinned M A s i
@@ -79,7 +55,7 @@ module _ (M : Model) (A : Map) (i : ℕ) where
       let b = s / M.period i * M.period i in
       let d : s - b ≡ s % M.period i = omega (arith, div-add-mod' s (M.period i)) in
       rw (d, pins_tally (s / M.period i) (s % M.period i), min_ltb (M.execution i) (tally p b (s % M.period i)))
-      (sym (and_assoc (A s i) (leb (size M A s) (M.capacity s)) (ltb (tally p b (s % M.period i)) (M.execution i))))
+      (and_assoc (A s i) (leb (size M A s) (M.capacity s)) (ltb (tally p b (s % M.period i)) (M.execution i)))
 
   tally_full : (j : ℕ) → leb (M.execution i) (tally (λ s. few_enough M A s i) (j * M.period i) (M.deadline i)) ≡ full M A i j
   unfolding full
@@ -88,11 +64,7 @@ module _ (M : Model) (A : Map) (i : ℕ) where
   module _ (p : ℕ → Bool) (h : ℕ) (T : 0 < M.period i) (F : h % M.period i ≡ 0) (D : M.deadline i ≤ M.period i)
       (agree : (s : ℕ) → s < h → p s ≡ few_enough M A s i) (s : ℕ) (l : s < h) (inside : A s i ≡ true → window M s i ≡ true) where
     outside : window M s i ≡ false → A s i ≡ false
-    outside e = go (A s i) refl
-      where
-        go : (b : Bool) → A s i ≡ b → A s i ≡ false
-        go true q = clash (inside q) e
-        go false q = q
+    outside e = grind arith
 
     pinned_outside : window M s i ≡ false → pinned M A s i ≡ false
     unfolding pinned pin

@@ -1,2 +1,2 @@
--- What the map of depth 1 is worked out from.
-pub mod Columns
+-- What the first map reads of a row.
+pub mod Spans

@@ -1,76 +1,72 @@
 // The map of depth 1, slot by slot.
 #![tactic(auto)]
 
-ghost use Rattle.std.specs.Prelude.{◌≡◌, cond, ℕ, ◌%◌, ◌≤◌, ◌<◌, ltb, length, get_or};
+ghost use Rattle.std.specs.Prelude.{◌≡◌, ◌%◌, ◌≤◌, ◌<◌, ltb, length, map};
 ghost use Rattle.basics.specs.Over.{Over};
+ghost use Rattle.model.specs.Windows.{window};
 ghost use Rattle.model.specs.Depths.{available};
-ghost use Rattle.sets.specs.Word.{width, word, words, adding};
-ghost use Rattle.table_row.specs.Limits.{most_rows};
-ghost use Rattle.table.specs.Rows.{row_at};
-ghost use Rattle.table.specs.Meaning.{model_of, Accepted};
-ghost use Rattle.judge_first.specs.Columns.{in_windows};
+ghost use Rattle.sets.specs.Word.{words};
+ghost use Rattle.table.specs.Meaning.{model_of};
+ghost use Rattle.judge_first.specs.Spans.{span_by};
 
-use basics::widths;
 use sets::Set;
-use table::Table;
+use table::framed::Framed;
+use table_row::Row;
 use table_row::limits::ROWS;
 
-// The rows' periods and deadlines as two lists, so that no slot has to copy the table.
-fn columns(t: Table, n: usize, periods: &mut [u32; ROWS], deadlines: &mut [u32; ROWS])
-    requires { (n ≤ most_rows) × (n ≤ length periods.old) × (n ≤ length deadlines.old) }
-    ensures { Over (λ i. (row_at t i).period) 0 n periods.old periods.new × Over (λ i. (row_at t i).deadline) 0 n deadlines.old deadlines.new }
+// T and D of a row, in the width of a slot. The rows' stand in an array of their own: out of the table they took a third longer to read.
+#[derive(Clone, Copy)]
+struct Span {
+    period: u32,
+    deadline: u32,
+}
+
+fn span_of(row: Row) -> Span
+    ensures { result ≡ span_by row }
 {
-    let mut i: usize = 0;
-    while i < n {
-        let row = t.rows[i];
-        periods[i] = widths::word_of_half(row.period);
-        deadlines[i] = widths::word_of_half(row.deadline);
-        i += 1;
+    Span {
+        period: row.period as u32,
+        deadline: row.deadline as u32,
     }
 }
 
-// Whether slot s is in the window of a job of a row with this period and deadline.
-fn in_window(period: u32, deadline: u32, s: u32) -> bool
-    requires { 0 < period }
-    ensures { result ≡ ltb (s % period) deadline }
+fn spans(rows: [Row; ROWS]) -> [Span; ROWS]
+    ensures { result ≡ map span_by rows }
 {
-    s % period < deadline
+    rows.map(span_of)
 }
 
-// w, with row i where b says so.
-fn with_row(w: Set, i: usize, b: bool) -> Set
-    ensures { result ≡ cond b (adding width i w) w }
+// Whether slot s is in the window of a job of the row.
+fn in_window(c: Span, s: u32) -> bool
+    requires { 0 < c.period }
+    ensures { result ≡ ltb (s % c.period) c.deadline }
 {
-    if b { sets::with(w, i) } else { w }
+    s % c.period < c.deadline
 }
 
-// The rows in whose windows slot s is, of the first n.
-fn first_word(periods: &[u32; ROWS], deadlines: &[u32; ROWS], n: usize, s: u32) -> Set
-    requires few { n ≤ most_rows }
-    requires positive { (i : ℕ) → i < n → 0 < get_or periods.now i 0 }
-    ensures { result ≡ word n (in_windows periods.now deadlines.now s) }
+// The rows in whose windows slot s is.
+#[tactic(auto, using(crate::proofs::Next::word_zero))]
+fn first_word(a: &Framed, spans: &[Span; ROWS], s: u32) -> Set
+    requires { spans.now ≡ map span_by a.now.table.rows }
+    ensures { result ≡ words (model_of a.now.table) (window (model_of a.now.table)) s }
 {
     let mut w: Set = 0;
-    let mut i: usize = 0;
-    while i < n {
-        w = with_row(w, i, in_window(periods[i], deadlines[i], s));
-        i += 1;
+    for i in 0..a.table.count as usize {
+        if in_window(spans[i], s) {
+            w = sets::with(w, i);
+        }
     }
     w
 }
 
-// The available sets of depth 1 in the first h slots.
-pub fn first_map(t: Table, h: usize, map: &mut [Set])
-    requires { Accepted t h × (h ≤ length map.old) }
-    ensures { Over (words (model_of t) (available (model_of t) 1)) 0 h map.old map.new }
+// The available sets of depth 1 in the slots of the frame.
+#[tactic(auto, unfolding(model::specs::Depths::available))]
+pub fn first_map(a: Framed, map: &mut [Set])
+    requires { a.frame ≤ length map.old }
+    ensures { Over (words (model_of a.table) (available (model_of a.table) 1)) 0 a.frame map.old map.new }
 {
-    let n = widths::size_of_half(t.count);
-    let mut periods = [0u32; ROWS];
-    let mut deadlines = [0u32; ROWS];
-    columns(t, n, &mut periods, &mut deadlines);
-    let mut s: usize = 0;
-    while s < h {
-        map[s] = first_word(&periods, &deadlines, n, widths::word_of_size(s));
-        s += 1;
+    let spans = spans(a.table.rows);
+    for s in 0..a.frame {
+        map[s as usize] = first_word(&a, &spans, s);
     }
 }

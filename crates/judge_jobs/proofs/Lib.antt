@@ -2,6 +2,7 @@
 pub mod Tally
 pub mod Noticed
 pub mod Trimmed
+pub mod Window
 pub mod Done
 pub mod Row
 pub mod Determined

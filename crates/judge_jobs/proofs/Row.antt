@@ -6,7 +6,8 @@ use Prim.Native.Nat.{ℕ, ◌+◌, ◌-◌, ◌*◌, ◌/◌, ◌%◌, ◌≤◌
 use native.Mathlib.Nat.{div-add-mod'}
 use native.Mathlib.Omega.{arith}
 use lib.Arith.{digits_div, digits_mod}
-use lib.ListN.{get_or}
+use lib.ListN.{length, get_or, take, drop}
+use borrow.Rule.Slice.PartMut.{put_mid}
 use borrow.Author.Tests.{lt-ltb, le-ltb}
 use Rattle.model.proofs.Stop.{frame_room}
 use Rattle.sets.specs.Word.{member, put}
@@ -14,9 +15,10 @@ use Rattle.sets.proofs.Words.{put_same}
 use Rattle.basics.proofs.Overs.{over_on, over_join}
 use Rattle.table_row.specs.declared.Row.{Row}
 use Rattle.judge_jobs.specs.First.{in_slot, first}
-use Rattle.judge_jobs.specs.Passes.{job_map, row_pin, row_map, JobDone, RowDone}
+use Rattle.judge_jobs.specs.Passes.{job_map, row_pin, row_map, JobDone, WindowDone, RowDone}
 use Rattle.judge_jobs.proofs.Tally.{tally_ext, first_ext}
 use Rattle.judge_jobs.proofs.Noticed.{noticed_on, noticed_join}
+use Rattle.judge_jobs.proofs.Window.{job_window}
 
 starts : (t s : ℕ) → s % t ≡ 0 → s / t * t ≡ s
 starts t s e = omega (arith, div-add-mod' s t)
@@ -82,3 +84,13 @@ module _ (i : ℕ) (row : Row) (b : ℕ) (D : row.deadline ≤ row.period) (B : 
         (omega arith) (λ s h l. sym (put_same i (get_or A₀ s 0) (map_rest s h l)));
     noticed = noticed_on (noticed_join x y r.maps q.maps r.noticed q.noticed (omega arith) (omega arith)) (omega arith);
   }
+
+-- that job, done in its window alone
+module _ (i : ℕ) (row : Row) (b h : ℕ) (some : 0 < row.period) (D : row.deadline ≤ row.period) (B : b % row.period ≡ 0) (H : h % row.period ≡ 0)
+    (here : b < h) {P₀ P A₀ A : List ℕ} {x : Bool} (r : RowDone i row b P₀ P A₀ A x) (p : h ≤ length P) (a : h ≤ length A) where
+  pub row_turn : {k : ℕ} {P' A' : List ℕ} {y : Bool} → k ≡ row.deadline
+      → WindowDone i row.execution (take k (drop b P)) P' (take k (drop b A)) A' y
+      → RowDone i row (b + row.period) P₀ (put_mid b k P P') A₀ (put_mid b k A A') (x || y)
+  row_turn {k} e q =
+      let f = release_fits row.period b h some here B H in
+      row_step i row b D B r (job_window i row.execution b k P A (omega arith) (omega arith) e q)

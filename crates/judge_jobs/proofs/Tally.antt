@@ -3,35 +3,31 @@ use mathlib.Core.Path.{◌≡◌, refl, sym, ap, ap₂, ◌∙◌}
 use mathlib.Core.Bool.{Bool, true, false, ◌&&◌}
 use mathlib.Core.Logic.{⊎_elim}
 use Prim.Native.Nat.{ℕ, zero, suc, ◌+◌, ◌-◌, ◌≤◌, ◌<◌}
-use native.Mathlib.Nat.{le_refl, eq-or-lt_of_le}
+use native.Mathlib.Nat.{le_refl, zero-add}
 use native.Mathlib.Numerals.{add-one}
 use native.Mathlib.Omega.{arith}
+use mathlib.Core.List.{List}
 use lib.Dec.{ltb}
+use lib.ListN.{length, take}
+use Rattle.std.specs.List.{sum_by}
+use mir.Val.{bool_byte}
+use Rattle.std.proofs.lemmas.List.Sums.{sum_by_more}
+use Rattle.std.proofs.lemmas.List.{take_all}
+use Rattle.std.proofs.lemmas.Bool.{cases_lt}
+use Rattle.std.proofs.Math.Bool.{and-true, and-false}
+use Rattle.sets.specs.Word.{member}
 use borrow.Author.Tests.{lt-ltb, le-ltb}
 use Rattle.basics.specs.Sum.{sum, bit}
 use Rattle.basics.proofs.Sums.{sum_eq, sum_longer}
-use Rattle.basics.proofs.Bools.{lt_or_ge}
-use Rattle.judge_jobs.specs.First.{tally, first}
+use Rattle.judge_jobs.specs.First.{in_slot, tally, first}
 
 pub bit_le_one : (b : Bool) → bit b ≤ 1
 bit_le_one true = omega arith
 bit_le_one false = omega arith
 
--- what the machine reads of a row's bit is 0 or 1
-pub bit_small : {r : ℕ} (b : Bool) → r ≡ bit b → r ≤ 1
-bit_small b e = rw e (bit_le_one b)
-
 bit_none : (b : Bool) → bit b ≡ 0 → b ≡ false
 bit_none true e = absurd (omega arith)
 bit_none false e = refl
-
-pub and_with_true : (b : Bool) → b && true ≡ b
-and_with_true true = refl
-and_with_true false = refl
-
-pub and_with_false : (b : Bool) → b && false ≡ false
-and_with_false true = refl
-and_with_false false = refl
 
 module _ (p : ℕ → Bool) (b : ℕ) where
   pub tally_zero : tally p b 0 ≡ 0
@@ -43,24 +39,34 @@ module _ (p : ℕ → Bool) (b : ℕ) where
   unfolding tally sum
   tally_suc o = refl
 
-  pub tally_more : (o : ℕ) → tally p b (o + 1) ≡ tally p b o + bit (p (b + o))
-  tally_more o = ap (tally p b) (add-one o) ∙ tally_suc o
-
-  pub tally_last : (o : ℕ) → 0 < o → tally p b o ≡ tally p b (o - 1) + bit (p (b + (o - 1)))
-  tally_last o h = ap (tally p b) (let e : o ≡ suc (o - 1) = omega arith in e) ∙ tally_suc (o - 1)
-
   pub tally_longer : {o k : ℕ} → o ≤ k → tally p b o ≤ tally p b k
   unfolding tally
   tally_longer h = sum_longer (λ k. bit (p (b + k))) h
-
-  -- where fewer have passed than in the window, the window goes on
-  pub tally_short : {o len c : ℕ} → o ≤ len → tally p b o < c → c ≤ tally p b len → o < len
-  tally_short {o} {len} h l m = ⊎_elim (λ (e : o ≡ len). absurd (omega (arith, ap (tally p b) e))) (λ (g : o < len). g) (eq-or-lt_of_le h)
 
   -- at most every slot passes
   pub tally_le : (o : ℕ) → tally p b o ≤ o
   tally_le zero = omega (arith, tally_zero)
   tally_le (suc o) = omega (arith, tally_suc o, bit_le_one (p (b + o)), tally_le o)
+
+-- in a window's own list: one slot more, and one fewer
+pub tally_next : (p : ℕ → Bool) (s : ℕ) → tally p 0 (s + 1) ≡ tally p 0 s + bit (p s)
+tally_next p s = ap (tally p 0) (add-one s) ∙ tally_suc p 0 s ∙ ap (λ (k : ℕ). tally p 0 s + bit (p k)) (zero-add s)
+
+pub tally_back : (p : ℕ → Bool) (s : ℕ) → 0 < s → tally p 0 s ≡ tally p 0 (s - 1) + bit (p (s - 1))
+tally_back p s h = ap (tally p 0) (let e : s ≡ s - 1 + 1 = omega arith in e) ∙ tally_next p (s - 1)
+
+-- the sum of a list's bits of row i
+byte_bit : (b : Bool) → bool_byte b ≡ bit b
+byte_bit true = refl
+byte_bit false = refl
+
+counted : (i : ℕ) (l : List ℕ) (n : ℕ) → n ≤ length l → sum_by (λ w. bool_byte (member i w)) (take n l) ≡ tally (in_slot i l) 0 n
+counted i l zero h = sym (tally_zero (in_slot i l) 0)
+counted i l (suc n) h =
+    rw (← add-one n, sum_by_more (λ w. bool_byte (member i w)) l n 0 h, counted i l n (omega arith), byte_bit) (sym (tally_next (in_slot i l) n))
+
+pub sum_tally : (i : ℕ) (l : List ℕ) → sum_by (λ w. bool_byte (member i w)) l ≡ tally (in_slot i l) 0 (length l)
+sum_tally i l = ap (sum_by (λ w. bool_byte (member i w))) (sym (take_all (length l) l (le_refl (length l)))) ∙ counted i l (length l) (le_refl (length l))
 
 pub tally_ext : (p q : ℕ → Bool) (b o : ℕ) → ((k : ℕ) → k < o → p (b + k) ≡ q (b + k)) → tally p b o ≡ tally q b o
 unfolding tally
@@ -75,12 +81,12 @@ module _ (c : ℕ) (p : ℕ → Bool) (b : ℕ) where
   -- before c have passed, every slot that passes is one of the first c
   pub first_below : (s : ℕ) → tally p b (s - b) < c → first c p b s ≡ p s
   unfolding first
-  first_below s l = rw (lt-ltb (tally p b (s - b)) c l) (and_with_true (p s))
+  first_below s l = rw (lt-ltb (tally p b (s - b)) c l) (and-true (p s))
 
   -- and from then on none is
   pub first_above : (s : ℕ) → c ≤ tally p b (s - b) → first c p b s ≡ false
   unfolding first
-  first_above s l = rw (le-ltb (tally p b (s - b)) c l) (and_with_false (p s))
+  first_above s l = rw (le-ltb (tally p b (s - b)) c l) (and-false (p s))
 
   -- fewer than c pass in the window: they stay as they are
   pub first_few : (len s : ℕ) → tally p b len < c → b ≤ s → s < b + len → first c p b s ≡ p s
@@ -88,7 +94,7 @@ module _ (c : ℕ) (p : ℕ → Bool) (b : ℕ) where
 
   module _ (o : ℕ) (e : tally p b o ≡ c) where
     pub first_low : (s : ℕ) → b ≤ s → s < b + o → first c p b s ≡ p s
-    first_low s h l = ⊎_elim (first_below s) late (lt_or_ge (tally p b (s - b)) c)
+    first_low s h l = ⊎_elim (first_below s) late (cases_lt (tally p b (s - b)) c)
       where
         late : c ≤ tally p b (s - b) → first c p b s ≡ p s
         late g =

@@ -1,5 +1,5 @@
 -- For the passes alone: what a job and a row do to the words of the pins and of the map. The pins begin with the sets that have few enough rows.
-use Rattle.std.specs.Prelude.{◌≡◌, Bool, true, false, cond, List, ℕ, ◌+◌, ◌*◌, ◌/◌, ◌%◌, ◌≤◌, ◌<◌, leb, ltb, get_or}
+use Rattle.std.specs.Prelude.{◌≡◌, Bool, true, false, cond, List, ℕ, ◌+◌, ◌*◌, ◌/◌, ◌%◌, ◌≤◌, ◌<◌, leb, ltb, length, get_or}
 use Rattle.sets.specs.Word.{put}
 use Rattle.basics.specs.Over.{Over, Same}
 use Rattle.table_row.specs.declared.Row.{Row}
@@ -46,6 +46,12 @@ abbrev pub JobDone : ℕ → ℕ → ℕ → ℕ → List ℕ → List ℕ → L
 JobDone i c d b pin pin' map map' changed =
     Both (putting i (first c (in_slot i pin) b) pin) (putting i (job_map c d (in_slot i pin) (in_slot i map) b) map)
     b (b + d) pin pin' map map' changed
+
+-- the same of a job in the lists of its window alone
+abbrev pub WindowDone : ℕ → ℕ → List ℕ → List ℕ → List ℕ → List ℕ → Bool → Type 0
+WindowDone i c pin pin' map map' changed =
+    Both (putting i (first c (in_slot i pin) 0) pin) (putting i (job_map c (length pin) (in_slot i pin) (in_slot i map) 0) map)
+    0 (length pin) pin pin' map map' changed
 
 -- after the jobs of row i that are released before slot h
 abbrev pub RowDone : ℕ → Row → ℕ → List ℕ → List ℕ → List ℕ → List ℕ → Bool → Type 0

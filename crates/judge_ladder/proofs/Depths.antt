@@ -19,8 +19,10 @@ use Rattle.judge_admit.specs.Admit.{Admitted}
 use Rattle.judge.specs.After.{map_after, pins_after}
 use Rattle.judge.specs.Judge.{Numbers, given, numbers, judge_of, Judged}
 use Rattle.judge_admit.proofs.Admitted.{admit_outcome}
+use Rattle.std.specs.Prelude.{Result}
+use Rattle.refusal.specs.declared.Refusal.{Refusal}
 use Rattle.judge_ladder.specs.declared.Square.{Square}
-use Rattle.judge_ladder.specs.Ladder.{ladder_of, Laddered}
+use Rattle.judge_ladder.specs.Ladder.{Numbers as Squared, square, ladder_of, Laddered}
 use Rattle.judge_climb.proofs.Squares.{lines_at}
 use Rattle.table_row.specs.Limits.{most_depths}
 
@@ -56,18 +58,18 @@ module _ (t : Table) (a b y : ℕ) (e : (admit_of t a b).refusal.no ≡ 0) (l : 
   line_judged = rw (admit_depth, e, ladder_line)
 
 -- the same of whatever meets the two contracts, where the ladder is not refused
-module _ (t : Table) (map pins map' pins' map'' pins'' : List ℕ) (r : Square) (v : Verdict) (L : Laddered t map pins map' pins' r) (e : r.refusal.no ≡ 0) where
+module _ (t : Table) (map pins map' pins' map'' pins'' : List ℕ) (r : Square) (v : Result Verdict Refusal) (L : Laddered t map pins map' pins' r) (e : (square r).refusal.no ≡ 0) where
   accepts : (admit_of t (length map) (length pins)).refusal.no ≡ 0
   unfolding ladder_of
-  accepts = sym (ap (λ (s : Square). s.refusal.no) L.answer) ∙ e
+  accepts = sym (ap (λ (s : Squared). s.refusal.no) L.answer) ∙ e
 
   -- line y has the numbers of the verdict at depth y
   pub line_of_verdict : (y : ℕ) → 1 ≤ y → y ≤ most_depths → Judged (at_depth t y) map pins map'' pins'' v
-      → numbers v ≡ given (get_or r.lines (y - 1) no_line) (numbers v).frame
+      → numbers v ≡ given (get_or (square r).lines (y - 1) no_line) (numbers v).frame
   line_of_verdict y l g J =
       let n = J.answer ∙ line_judged t (length map) (length pins) y accepts l g in
       n ∙ ap (λ (h : ℕ). given (get_or (ladder_of t (length map) (length pins)).lines (y - 1) no_line) h) (sym (ap (λ (k : Numbers). k.frame) n))
-      ∙ ap (λ (s : Square). given (get_or s.lines (y - 1) no_line) (numbers v).frame) (sym L.answer)
+      ∙ ap (λ (s : Squared). given (get_or s.lines (y - 1) no_line) (numbers v).frame) (sym L.answer)
 
   -- "Both lists end as the judge leaves them at depth 8"
   pub lists_of_verdict : Judged (at_depth t most_depths) map pins map'' pins'' v → (map'' ≡ map') × (pins'' ≡ pins')

@@ -9,7 +9,7 @@ use lib.Dec.{eqb}
 use lib.ListN.{length, get_or}
 use borrow.Author.Tests.{ne_eqb}
 use Rattle.basics.proofs.Tabled.{filled_at}
-use Rattle.refusal.specs.declared.Refusal.{Refusal}
+use Rattle.refusal.specs.Refusal.{Numbered}
 use Rattle.model.specs.Model.{Map}
 use Rattle.model.specs.Supply.{supply}
 use Rattle.model.specs.Work.{work_due}
@@ -35,9 +35,9 @@ use Rattle.judge_admit.proofs.Admitted.{admit_outcome}
 use Rattle.judge.proofs.Lines.{line_t, line_some}
 use Rattle.judge.proofs.Kept.{after_refused, after_past}
 use Rattle.judge.proofs.Past.{line_alike, admit_alike, map_alike, pins_alike}
-use Rattle.judge_ladder.specs.declared.Square.{Square}
 use Rattle.judge_climb.specs.Lines.{lines_of}
-use Rattle.judge_ladder.specs.Ladder.{no_lines, ladder_of, Laddered}
+use Rattle.judge_ladder.specs.declared.Square.{Square}
+use Rattle.judge_ladder.specs.Ladder.{Numbers, square, no_lines, ladder_of, Laddered}
 use Rattle.judge_climb.proofs.Squares.{lines_at, lines_ext}
 
 -- where the ladder is refused
@@ -45,22 +45,22 @@ module _ (t : Table) (map pins map' pins' : List ℕ) (r : Square) (L : Laddered
   abbrev c : CheckNumbers
   c = admit_of t (length map) (length pins)
 
-  refusal_is : r.refusal ≡ c.refusal
+  refusal_is : (square r).refusal ≡ c.refusal
   unfolding ladder_of
-  refusal_is = ap (λ (s : Square). s.refusal) L.answer
+  refusal_is = ap (λ (s : Numbers). s.refusal) L.answer
 
   -- "Every refusal leaves all lent memory untouched", and the square is zeros
-  pub ladder_refused_unchanged : 0 < r.refusal.no → (map' ≡ map) × (pins' ≡ pins) × (r.lines ≡ no_lines)
+  pub ladder_refused_unchanged : 0 < (square r).refusal.no → (map' ≡ map) × (pins' ≡ pins) × ((square r).lines ≡ no_lines)
   unfolding ladder_of
   ladder_refused_unchanged h =
-      let n : c.refusal.no ≡ 0 → ⊥ = λ z. omega (arith, ap (λ (q : Refusal). q.no) refusal_is) in
+      let n : c.refusal.no ≡ 0 → ⊥ = λ z. omega (arith, ap (λ (q : Numbered). q.no) refusal_is) in
       let k = after_refused t most_depths map pins n in
-      (L.map_is ∙ k.0, L.pins_is ∙ k.1, ap (λ (s : Square). s.lines) L.answer ∙ rw (ne_eqb c.refusal.no 0 n))
+      (L.map_is ∙ k.0, L.pins_is ∙ k.1, ap (λ (s : Numbers). s.lines) L.answer ∙ rw (ne_eqb c.refusal.no 0 n))
 
 -- where it is not, on the frame h of the table
-module _ (t : Table) (map pins map' pins' : List ℕ) (r : Square) (L : Laddered t map pins map' pins' r) (e : r.refusal.no ≡ 0) (h : ℕ) (a : Accepted t h) where
+module _ (t : Table) (map pins map' pins' : List ℕ) (r : Square) (L : Laddered t map pins map' pins' r) (e : (square r).refusal.no ≡ 0) (h : ℕ) (a : Accepted t h) where
   fine : (admit_of t (length map) (length pins)).refusal.no ≡ 0
-  fine = sym (ap (λ (q : Refusal). q.no) (refusal_is t map pins map' pins' r L)) ∙ e
+  fine = sym (ap (λ (q : Numbered). q.no) (refusal_is t map pins map' pins' r L)) ∙ e
 
   frame_is : (admit_of t (length map) (length pins)).frame ≡ h
   frame_is =
@@ -80,12 +80,12 @@ module _ (t : Table) (map pins map' pins' : List ℕ) (r : Square) (L : Laddered
 
   module _ (y : ℕ) (k : y < most_depths) where
     abbrev line : Line
-    line = get_or r.lines y no_line
+    line = get_or (square r).lines y no_line
 
     line_is : line ≡ line_at (model_of t) (suc y) h
     unfolding ladder_of
     line_is =
-        ap (λ (s : Square). get_or s.lines y no_line) L.answer
+        ap (λ (s : Numbers). get_or s.lines y no_line) L.answer
         ∙ rw (fine, frame_is) (lines_at (model_of t) h y k)
 
     length_is : line.t ≡ least_failing (model_of t) (map_at t (suc y)) h

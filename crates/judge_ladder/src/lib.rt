@@ -1,27 +1,25 @@
 // The ladder: the lines of the depths 1 to 8 of a table, or its refusal.
 #![tactic(auto)]
 
-ghost use Rattle.std.specs.Prelude.{◌≡◌};
-ghost use Rattle.table_row.specs.Limits.{most_depths};
-ghost use Rattle.refusal.specs.Refusal.{none};
-ghost use Rattle.judge_scan.specs.Lines.{no_line};
+ghost use Rattle.std.specs.Prelude.{◌≡◌, map};
+ghost use Rattle.judge_climb.specs.Core.{to_line};
 ghost use Rattle.judge_ladder.specs.Ladder.{no_lines, Laddered};
-ghost use Rattle.judge_climb.specs.Core.{to_line, Spelled};
 
-use basics::widths;
 use judge_scan::Line;
 use refusal::Refusal;
 use sets::Set;
-use table::{Checked, Table};
+use table::Table;
 use table_row::limits::DEPTHS;
 
-// A refusal, none where its number is 0, and a line for each depth from 1 to 8.
+// The public answer keeps eight small structs beside the refusal, as document 01 asks: a line for each depth from 1 to 8, zeros where
+// the table is refused.
 #[derive(Clone, Copy)]
 pub struct Square {
-    pub refusal: Refusal,
+    pub refusal: Result<(), Refusal>,
     pub lines: [Line; DEPTHS],
 }
 
+// A line from its three numbers.
 fn line(a: [u32; 3]) -> Line
     ensures { result ≡ to_line a }
 {
@@ -30,6 +28,13 @@ fn line(a: [u32; 3]) -> Line
         work: a[1],
         supply: a[2],
     }
+}
+
+// The square's lines as small structs.
+fn lines(square: [[u32; 3]; 8]) -> [Line; DEPTHS]
+    ensures { result ≡ map to_line square }
+{
+    square.map(line)
 }
 
 // Eight small structs of zeros.
@@ -43,50 +48,18 @@ fn zeros() -> [Line; DEPTHS]
     }; DEPTHS]
 }
 
-// The square's lines as small structs.
-fn lines(square: [[u32; 3]; 8]) -> [Line; DEPTHS]
-    ensures { Spelled most_depths square result }
-{
-    let mut all = zeros();
-    let mut k: usize = 0;
-    while k < DEPTHS {
-        all[k] = line(square[k]);
-        k += 1;
-    }
-    all
-}
-
-// A refusal, with a square of zeros.
-fn refused(r: Refusal) -> Square
-    ensures { (result.refusal ≡ r) × (result.lines ≡ no_lines) }
-{
-    Square {
-        refusal: r,
-        lines: zeros(),
-    }
-}
-
-fn accepted(lines: [Line; DEPTHS]) -> Square
-    ensures { (result.refusal ≡ none) × (result.lines ≡ lines) }
-{
-    Square {
-        refusal: refusal::none(),
-        lines,
-    }
-}
-
 // The lines of all depths of a table, with the sets of depth 8 in the lists that are lent for them.
 pub fn ladder(t: Table, map: &mut [Set], pins: &mut [Set]) -> Square
     ensures { Laddered t map.old pins.old map.new pins.new result }
 {
-    let c = judge_admit::admit(t, map.len(), pins.len());
-    match c {
-        Checked::Refused(r) => refused(r),
-        Checked::Frame(h) => accepted(lines(judge_climb::climb(
-            t,
-            widths::size_of_word(h),
-            map,
-            pins,
-        ))),
+    match judge_admit::admit(t, map.len(), pins.len()) {
+        Ok(a) => Square {
+            refusal: Ok(()),
+            lines: lines(judge_climb::climb(a, map, pins)),
+        },
+        Err(r) => Square {
+            refusal: Err(r),
+            lines: zeros(),
+        },
     }
 }

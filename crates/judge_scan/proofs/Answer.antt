@@ -1,12 +1,13 @@
 -- The two lists of a scan: their sums are the work due and the supply, so what is found in them is the map's line.
 use mathlib.Core.Path.{◌≡◌, ◌∙◌}
 use mathlib.Core.List.{List}
-use mathlib.Core.Logic.{◌⊎◌, ⊎_elim}
 use Prim.Native.Nat.{ℕ, ◌≤◌, ◌<◌, min}
 use native.Mathlib.Nat.{min-le_left, lt_of_lt_of_le}
 use native.Mathlib.Omega.{arith}
 use lib.Count.{ones}
 use lib.ListN.{get_or, replicate, get_or-replicate}
+use borrow.Author.Tests.{ne_eqb}
+use Rattle.std.specs.Prelude.{Option, Some, None, MatchOption}
 use Rattle.model.specs.Work.{work_due}
 use Rattle.basics.proofs.Sums.{sum_eq}
 use Rattle.basics.specs.Over.{Over}
@@ -16,7 +17,7 @@ use Rattle.table.specs.Meaning.{model_of, Accepted}
 use Rattle.judge_first.proofs.Sequential.{sequential}
 use Rattle.judge_scan.specs.declared.Line.{Line}
 use Rattle.judge_scan.specs.Dues.{falling_in, Falls, most_due}
-use Rattle.judge_scan.specs.Lines.{Scannable, Scanned}
+use Rattle.judge_scan.specs.Lines.{Scanned}
 use Rattle.judge_scan.specs.Totals.{total, Low, FailsAt, FailsNowhere}
 use Rattle.judge_scan.proofs.Rows.{rows_low, work_total}
 use Rattle.judge_scan.proofs.Slots.{held, line_here, line_none}
@@ -28,9 +29,9 @@ no_dues = replicate most_slots 0
 pub zeros : (h : ℕ) → h ≤ most_slots → (s : ℕ) → s < h → get_or no_dues s 0 ≡ 0
 zeros h l s b = get_or-replicate most_slots s 0 0 (lt_of_lt_of_le b l)
 
-module _ (t : Table) {h n : ℕ} (g : Accepted t h) (e : n ≡ t.count) {dues : List ℕ} (q : Falls (falling_in t n) h no_dues dues) where
+module _ (t : Table) {h : ℕ} (g : Accepted t h) {dues : List ℕ} (q : Falls (falling_in t t.count) h no_dues dues) where
   due_in : (s : ℕ) → s < h → get_or dues s 0 ≡ falling_in t t.count s
-  due_in s b = rw (← e) (omega (arith, q.mid s (omega arith) b, zeros h g.frame_high s b))
+  due_in s b = omega (arith, q.mid s (omega arith) b, zeros h g.frame_high s b)
 
   pub dues_low : Low most_due h dues
   dues_low = record { at = λ s b. omega (arith, due_in s b, rows_low t h g t.count s (omega arith), g.count_high) }
@@ -46,21 +47,18 @@ module _ (m : ℕ) {h : ℕ} (map : List ℕ) {old usables : List ℕ} (q : Over
   unfolding held
   supply_is k b = sum_eq k (λ s a. q.mid s (omega arith) (omega arith))
 
-module _ (t : Table) {h n m : ℕ} {map dues usables old : List ℕ} (ready : Scannable t h map) (en : n ≡ t.count) (em : m ≡ t.processors)
-    (q : Falls (falling_in t n) h no_dues dues) (u : Over (λ s. min m (ones (get_or map s 0))) 0 h old usables) where
-  work : (k : ℕ) → k ≤ h → total dues k ≡ work_due (model_of t) k
-  work = work_is t ready.accepted en q
-
-  supply : (k : ℕ) → k ≤ h → total usables k ≡ held t.processors map k
-  supply = rw em at (supply_is m map u)
-
-  pub answer : {r : Line} → FailsAt dues usables h r ⊎ FailsNowhere dues usables h r → Scanned t h map r
-  answer {r} a A H = ⊎_elim
-      (λ (f : FailsAt dues usables h r).
-      line_here (sequential t) h map A H r.t f.from f.to
+module _ (t : Table) {h : ℕ} {map dues usables old : List ℕ} (g : Accepted t h)
+    (q : Falls (falling_in t t.count) h no_dues dues) (u : Over (λ s. min t.processors (ones (get_or map s 0))) 0 h old usables) where
+  pub answer : {r : Option Line} → MatchOption r (FailsNowhere dues usables h) (FailsAt dues usables h) → Scanned t h map r
+  answer {r = None} p A H =
+      let e = line_none (sequential t) h map A H (λ s x y. omega (arith, work_is t g q s y, supply_is t.processors map u s y, p.all s y)) in
+      record { numbers = e; some = rw (← e) }
+  answer {r = Some l} f A H =
+      let work = work_is t g q in
+      let supply = supply_is t.processors map u in
+      let e =
+      line_here (sequential t) h map A H l.t f.from f.to
       (λ s x y. omega (arith, work s (omega (arith, f.to)), supply s (omega (arith, f.to)), f.before s (omega (arith, f.from))))
-      (omega (arith, work r.t f.to, supply r.t f.to, f.works, f.supplies, f.here))
-      (f.works ∙ work r.t f.to) (f.supplies ∙ supply r.t f.to))
-      (λ (p : FailsNowhere dues usables h r).
-      p.line ∙ line_none (sequential t) h map A H (λ s x y. omega (arith, work s y, supply s y, p.all s y)))
-      a
+      (omega (arith, work l.t f.to, supply l.t f.to, f.works, f.supplies, f.here))
+      (f.works ∙ work l.t f.to) (f.supplies ∙ supply l.t f.to) in
+      record { numbers = e; some = rw (← e, ne_eqb l.t 0 (λ (z : l.t ≡ 0). omega (arith, f.from))) }

@@ -3,11 +3,11 @@ use mathlib.Core.Path.{◌≡◌, sym, ap, ◌∙◌}
 use mathlib.Core.List.{List}
 use mathlib.Core.Logic.{⊎_elim}
 use Prim.Native.Nat.{ℕ, ◌+◌, ◌-◌, ◌/◌, ◌%◌, ◌≤◌, ◌<◌}
-use native.Mathlib.Nat.{mul-zero, mul-one, suc-mul, mul-le-mul_right, mod-eq_of_lt, div-add-mod'}
+use native.Mathlib.Nat.{suc-mul, mul-le-mul_right, mod-eq_of_lt, div-add-mod'}
 use native.Mathlib.Omega.{arith}
 use lib.ListN.{length, get_or, set}
-use borrow.Author.Tests.{eq-eqb, ne_eqb}
-use Rattle.basics.proofs.Bools.{lt_or_ge}
+use Rattle.std.proofs.lemmas.Bool.Decides.{nat_tests}
+use Rattle.std.proofs.lemmas.Bool.{cases_lt}
 use Rattle.basics.proofs.Overs.{over_none, over_more, over_on}
 use Rattle.table_row.specs.declared.Row.{Row}
 use Rattle.judge_scan.specs.Dues.{falling, Falls}
@@ -18,7 +18,7 @@ spaced T a b e l =
     ⊎_elim
     (λ (h : a / T < b / T). omega (arith, mul-le-mul_right T h, suc-mul (a / T) T, div-add-mod' a T, div-add-mod' b T))
     (λ (h : b / T ≤ a / T). absurd (omega (arith, mul-le-mul_right T h, div-add-mod' a T, div-add-mod' b T)))
-    (lt_or_ge (a / T) (b / T))
+    (cases_lt (a / T) (b / T))
 
 pub ends_first : (T D : ℕ) → 0 < D → D ≤ T → (D - 1) % T ≡ D - 1
 ends_first T D p q = mod-eq_of_lt (let l : D - 1 < T = omega arith in l)
@@ -34,10 +34,10 @@ module _ (row : Row) (p : 0 < row.deadline) (q : row.deadline ≤ row.period) (o
   D = row.deadline
 
   here : (s : ℕ) → s % T ≡ D - 1 → get_or old s 0 + C ≡ get_or old s 0 + falling row s
-  here s e = rw (eq-eqb (s % T) (D - 1) e, mul-one C)
+  here s e = grind (arith, nat_tests)
 
   elsewhere : (s : ℕ) → (s % T ≡ D - 1 → ⊥) → get_or old s 0 ≡ get_or old s 0 + falling row s
-  elsewhere s e = rw (ne_eqb (s % T) (D - 1) e, mul-zero C) (omega arith)
+  elsewhere s e = grind (arith, nat_tests)
 
   pub ends_none : Falls (falling row) (D - 1) old old
   ends_none = over_on (over_none _ 0 old) (omega arith) (λ s a b. elsewhere s (λ (e : s % T ≡ D - 1).
@@ -62,5 +62,5 @@ module _ (row : Row) (p : 0 < row.deadline) (q : row.deadline ≤ row.period) (o
         ⊎_elim
         (λ (y : k < s). f.mid k (omega arith) y ∙ sym (elsewhere k (λ (g : k % T ≡ D - 1). let z : k + T ≤ s = spaced T k s (g ∙ sym e) y in omega arith)))
         (λ (y : s ≤ k). f.high k y)
-        (lt_or_ge k s);
+        (cases_lt k s);
   }

@@ -1,7 +1,6 @@
 -- A job more is due after slot k exactly when a window ends with it: how the work due grows from one length to the next.
 use mathlib.Core.Path.{◌≡◌, refl, ap, ◌∙◌}
 use mathlib.Core.Bool.{Bool, true, false}
-use mathlib.Core.Logic.{⊎_elim}
 use Prim.Native.Nat.{ℕ, zero, suc, ◌+◌, ◌-◌, ◌*◌, ◌/◌, ◌%◌, ◌≤◌, ◌<◌}
 use native.Mathlib.Nat.{suc-mul, mul-add, mul-zero, one-mul, mul-le-mul_right, div-add-mod'}
 use native.Mathlib.Omega.{arith}
@@ -11,7 +10,6 @@ use borrow.Author.Tests.{lt-leb, eqb-true, eqb-false}
 use Rattle.basics.specs.Sum.{sum, bit}
 use Rattle.model.specs.Model.{Model, Sound}
 use Rattle.model.specs.Work.{jobs_due, work_due}
-use Rattle.basics.proofs.Bools.{lt_or_ge}
 use Rattle.basics.proofs.Sums.{sum_eq, sum_add, sum_zero}
 use Rattle.model.proofs.Frames.{jobs_count}
 use Rattle.judge_first.proofs.Sequential.{row_of, Sequential}
@@ -23,7 +21,7 @@ at_least zero b f = omega arith
 at_least (suc a) b f = f a (omega arith)
 
 at_most : {a b : ℕ} → (a < b → ⊥) → b ≤ a
-at_most {a} {b} f = ⊎_elim (λ h. absurd (f h)) (λ h. h) (lt_or_ge a b)
+at_most {a} {b} f = grind (arith, f)
 
 module _ (M : Model) (G : Sound M) (i k : ℕ) (l : i < M.rows) where
   abbrev T : ℕ

@@ -1,14 +1,13 @@
 -- What falls due of a table's rows, one row after another, and that it is the work due.
 use mathlib.Core.Path.{◌≡◌, refl, sym, ap, ap₂, ◌∙◌}
-use mathlib.Core.Bool.{Bool, true, false}
 use mathlib.Core.List.{List}
-use Prim.Native.Nat.{ℕ, zero, suc, ◌+◌, ◌-◌, ◌*◌, ◌%◌, ◌≤◌, ◌<◌}
-use native.Mathlib.Nat.{mul-zero, mul-one, le_trans, le_of_eq}
+use Prim.Native.Nat.{ℕ, zero, suc, ◌+◌, ◌*◌, ◌≤◌, ◌<◌}
+use native.Mathlib.Nat.{le_trans, le_of_eq}
 use native.Mathlib.Numerals.{add-one}
 use native.Mathlib.Omega.{arith}
-use lib.Dec.{eqb}
+use Rattle.std.proofs.lemmas.Bool.Decides.{nat_tests}
 use lib.ListN.{get_or}
-use Rattle.basics.specs.Sum.{sum, bit}
+use Rattle.basics.specs.Sum.{sum}
 use Rattle.model.specs.Work.{work_due}
 use Rattle.basics.proofs.Sums.{sum_le, sum_same}
 use Rattle.basics.proofs.Overs.{over_none, over_on, over_then, over_ext}
@@ -41,11 +40,7 @@ module _ (t : Table) where
 
 -- a row adds at most its execution time
 falling_low : (row : Row) (s : ℕ) → falling row s ≤ row.execution
-falling_low row s = go (eqb (s % row.period) (row.deadline - 1))
-  where
-    go : (b : Bool) → row.execution * bit b ≤ row.execution
-    go true = omega (arith, mul-one row.execution)
-    go false = omega (arith, mul-zero row.execution)
+falling_low row s = grind (arith, nat_tests)
 
 module _ (t : Table) (h : ℕ) (g : Accepted t h) where
   pub rows_low : (n s : ℕ) → n ≤ t.count → falling_in t n s ≤ most_slots * n

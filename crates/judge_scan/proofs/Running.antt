@@ -9,7 +9,6 @@ use native.Mathlib.Omega.{arith}
 use lib.ListN.{get_or}
 use Rattle.basics.specs.Sum.{sum}
 use Rattle.table_row.specs.Limits.{most_processors}
-use Rattle.judge_scan.specs.Lines.{no_line}
 use Rattle.judge_scan.specs.Totals.{total, Low, FailsAt, FailsNowhere}
 
 pub total_none : (l : List ℕ) → total l 0 ≡ 0
@@ -59,16 +58,16 @@ module _ {d u : List ℕ} {v w k : ℕ} (r : Running d u v w k) where
         (eq-or-lt_of_le x);
   }
 
-  pub fails_here : {h t : ℕ} → t ≡ k + 1 → k < h → v + get_or u k 0 < w + get_or d k 0
-      → FailsAt d u h (record { t = t; work = w + get_or d k 0; supply = v + get_or u k 0 })
-  fails_here e l f = rw e (record {
+  pub fails_here : {h : ℕ} → k < h → v + get_or u k 0 < w + get_or d k 0
+      → FailsAt d u h (record { t = k + 1; work = w + get_or d k 0; supply = v + get_or u k 0 })
+  fails_here l f = record {
     from = omega arith;
     to = omega arith;
     works = due_more;
     supplies = supplied_more;
     here = f;
     before = λ s x. r.fine s (omega arith);
-  })
+  }
 
-  pub passes_all : {h : ℕ} → h ≤ k → FailsNowhere d u h no_line
-  passes_all l = record { line = refl; all = λ s x. r.fine s (omega arith) }
+  pub passes_all : {h : ℕ} → h ≤ k → FailsNowhere d u h
+  passes_all l = record { all = λ s x. r.fine s (omega arith) }

@@ -1,5 +1,5 @@
 -- A map's line: its least failing length, with the work and the supply of that length.
-use Rattle.std.specs.Prelude.{◌≡◌, cond, List, ℕ, ◌≤◌, eqb, length}
+use Rattle.std.specs.Prelude.{◌≡◌, not, cond, List, ℕ, Option, Some, None, is_some, eqb}
 use Rattle.model.specs.Model.{Model, Map}
 use Rattle.model.specs.Depths.{available}
 use Rattle.model.specs.Supply.{supply}
@@ -8,7 +8,7 @@ use Rattle.model.specs.Failing.{least_failing}
 use Rattle.sets.specs.Word.{words}
 use Rattle.basics.specs.Over.{Holds}
 use Rattle.table.specs.declared.Table.{Table}
-use Rattle.table.specs.Meaning.{model_of, Accepted}
+use Rattle.table.specs.Meaning.{model_of}
 use Rattle.judge_scan.specs.declared.Line.{Line}
 
 -- "three zeros for undecided"
@@ -25,11 +25,16 @@ line_of M A h =
 abbrev pub line_at : Model → ℕ → ℕ → Line
 line_at M y h = line_of M (available M y) h
 
--- a list that can hold a map of the table's frame h
-pub record Scannable (t : Table) (h : ℕ) (map : List ℕ) : Type 0 where
-  pub accepted : Accepted t h
-  pub room : h ≤ length map
+-- an answer in this paper's numbers
+abbrev pub line_or_zeros : Option Line → Line
+line_or_zeros None = no_line
+line_or_zeros (Some l) = l
+
+-- the answer of a line: its numbers, and none where it is three zeros
+pub record Answered (l : Line) (r : Option Line) : Type 0 where
+  pub numbers : line_or_zeros r ≡ l
+  pub some : is_some r ≡ not (eqb l.t 0)
 
 -- the line of whatever map the list holds
-abbrev pub Scanned : Table → ℕ → List ℕ → Line → Type 0
-Scanned t h map r = (A : Map) → Holds (words (model_of t) A) h map → r ≡ line_of (model_of t) A h
+abbrev pub Scanned : Table → ℕ → List ℕ → Option Line → Type 0
+Scanned t h map r = (A : Map) → Holds (words (model_of t) A) h map → Answered (line_of (model_of t) A h) r

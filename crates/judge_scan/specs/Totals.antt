@@ -2,7 +2,6 @@
 use Rattle.std.specs.Prelude.{◌≡◌, List, ℕ, ◌≤◌, ◌<◌, get_or}
 use Rattle.basics.specs.Sum.{sum}
 use Rattle.judge_scan.specs.declared.Line.{Line}
-use Rattle.judge_scan.specs.Lines.{no_line}
 
 -- the sum of the first t numbers of a list
 abbrev pub total : List ℕ → ℕ → ℕ
@@ -22,6 +21,5 @@ pub record FailsAt (dues usables : List ℕ) (h : ℕ) (r : Line) : Type 0 where
   pub before : (s : ℕ) → s < r.t → total dues s ≤ total usables s
 
 -- there is no such length
-pub record FailsNowhere (dues usables : List ℕ) (h : ℕ) (r : Line) : Type 0 where
-  pub line : r ≡ no_line
+pub record FailsNowhere (dues usables : List ℕ) (h : ℕ) : Type 0 where
   pub all : (s : ℕ) → s ≤ h → total dues s ≤ total usables s

@@ -13,7 +13,9 @@ use Rattle.model.specs.Windows.{window}
 use Rattle.model.specs.Pins.{size, pinned}
 use Rattle.model.specs.Depths.{full, next, available}
 use Rattle.model.specs.Schedule.{Valid, Within}
-use Rattle.basics.proofs.Bools.{and_left, and_true, or_left, or_right, cond_cases, test}
+use Rattle.std.specs.Cmp.Derive.{both_true}
+use Rattle.std.proofs.lemmas.Bool.{cases_Bool}
+use Rattle.basics.proofs.Bools.{and_left, or_left, or_right, cond_cases}
 use Rattle.basics.proofs.Sums.{sum_eq}
 use Rattle.model.proofs.Pins.{size_le, pinned_in_lem, pinned_room, pins_sum, full_pins}
 
@@ -35,8 +37,8 @@ module _ (M : Model) (G : Sound M) (H : ℕ) (A : Map) (in_a : (t i : ℕ) → A
   better_next : Within M H (better M A S) (next M A)
   unfolding Within next
   better_next t i l k e =
-      ⊎_elim (λ w. and_true (in_a t i (pinned_in_lem M A i t w.1)) (or_left _ w.1))
-      (λ w. and_true (ok.inside t i l k w.1) (or_right (pinned M A t i) (ap not w.0)))
+      ⊎_elim (λ w. both_true (in_a t i (pinned_in_lem M A i t w.1)) (or_left _ w.1))
+      (λ w. both_true (ok.inside t i l k w.1) (or_right (pinned M A t i) (ap not w.0)))
       (better_cases t i e)
 
   better_runs : (i j : ℕ) → i < M.rows → j * M.period i < H → sum (M.deadline i) (λ o. bit (better M A S (j * M.period i + o) i)) ≡ M.execution i
@@ -52,7 +54,7 @@ module _ (M : Model) (G : Sound M) (H : ℕ) (A : Map) (in_a : (t i : ℕ) → A
 
   better_fits : (t : ℕ) → t < H → size M (better M A S) t ≤ M.capacity t
   unfolding Within
-  better_fits t l = ⊎_elim small large (test (leb (size M A t) (M.capacity t)))
+  better_fits t l = ⊎_elim small large (cases_Bool (leb (size M A t) (M.capacity t)))
     where
       small : leb (size M A t) (M.capacity t) ≡ true → size M (better M A S) t ≤ M.capacity t
       small e =

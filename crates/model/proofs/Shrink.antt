@@ -13,7 +13,10 @@ use Rattle.model.specs.Windows.{window}
 use Rattle.model.specs.Pins.{size, pin, pins, pinned}
 use Rattle.model.specs.Depths.{full, next, available, pinned_at}
 use Rattle.model.specs.Supply.{supply, usable}
-use Rattle.basics.proofs.Bools.{and_right, and_true, or_cases, or_left, or_right, test, same, clash}
+use Rattle.std.specs.Cmp.Derive.{both_true}
+use Rattle.std.proofs.lemmas.Bool.{or_cases, cases_Bool}
+use Rattle.std.specs.Cmp.{both_ways}
+use Rattle.basics.proofs.Bools.{and_right, or_left, or_right, clash}
 use Rattle.basics.proofs.Sums.{sum_le}
 use Rattle.model.proofs.Pins.{size_le, pin_in, pin_room, pin_wants, pinned_in_lem, pinned_slot}
 use Rattle.model.proofs.Better.{next_window}
@@ -23,7 +26,7 @@ Under M A B = (t i : ℕ) → i < M.rows → A t i ≡ true → B t i ≡ true
 
 pub pin_make : (M : Model) (A : Map) (i t k : ℕ) → A t i ≡ true → size M A t ≤ M.capacity t → k < M.execution i → pin M A i t k ≡ true
 unfolding pin
-pin_make M A i t k a r w = and_true a (and_true (le-leb _ _ r) (lt-ltb _ _ w))
+pin_make M A i t k a r w = both_true a (both_true (le-leb _ _ r) (lt-ltb _ _ w))
 
 pub next_cases : (M : Model) (A : Map) (t i : ℕ) → next M A t i ≡ true → (pinned M A t i ≡ true) ⊎ (full M A i (t / M.period i) ≡ false)
 unfolding next
@@ -32,11 +35,11 @@ next_cases M A t i e =
 
 pub next_pinned : (M : Model) (A : Map) (t i : ℕ) → window M t i ≡ true → pinned M A t i ≡ true → next M A t i ≡ true
 unfolding next
-next_pinned M A t i w p = and_true w (or_left _ p)
+next_pinned M A t i w p = both_true w (or_left _ p)
 
 pub next_open : (M : Model) (A : Map) (t i : ℕ) → window M t i ≡ true → full M A i (t / M.period i) ≡ false → next M A t i ≡ true
 unfolding next
-next_open M A t i w p = and_true w (or_right (pinned M A t i) (ap not p))
+next_open M A t i w p = both_true w (or_right (pinned M A t i) (ap not p))
 
 pub window_slot : (M : Model) → Sound M → (i j o : ℕ) → i < M.rows → o < M.deadline i → window M (j * M.period i + o) i ≡ true
 unfolding window
@@ -46,7 +49,7 @@ module _ (M : Model) (G : Sound M) (A : Map) (below : Under M (next M A) A) wher
   -- a slot of a full job is pinned as before
   repeats : (i j : ℕ) → i < M.rows → full M A i j ≡ true → (o : ℕ) → o < M.deadline i
       → pin M (next M A) i (j * M.period i + o) (pins M A i j o) ≡ pin M A i (j * M.period i + o) (pins M A i j o)
-  repeats i j k f o l = same _ _ there back
+  repeats i j k f o l = both_ways _ _ there back
     where
       t : ℕ
       t = j * M.period i + o
@@ -78,7 +81,7 @@ module _ (M : Model) (G : Sound M) (A : Map) (below : Under M (next M A) A) wher
   shrinks : Under M (next M (next M A)) (next M A)
   shrinks t i k e =
       ⊎_elim (pinned_in_lem M (next M A) i t)
-      (λ g. ⊎_elim (λ f. clash (keeps_full i (t / M.period i) k f) g) (next_open M A t i (next_window M (next M A) t i e)) (test (full M A i (t / M.period i))))
+      (λ g. ⊎_elim (λ f. clash (keeps_full i (t / M.period i) k f) g) (next_open M A t i (next_window M (next M A) t i e)) (cases_Bool (full M A i (t / M.period i))))
       (next_cases M (next M A) t i e)
 
 shrinks_deeper : (M : Model) → Sound M → (y : ℕ) → Under M (available M (suc (suc y))) (available M (suc y))

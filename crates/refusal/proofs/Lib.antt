@@ -1,2 +1,3 @@
--- The laws of refusals in an order.
+-- The laws of refusals in an order, and of their numbers.
 pub mod Order
+pub mod Told

@@ -7,12 +7,11 @@ use native.Mathlib.Nat.{eq-or-lt_of_le}
 use native.Mathlib.Omega.{arith}
 use lib.Dec.{eqb}
 use borrow.Author.Tests.{eq-eqb, ne_eqb, eqb-true, eqb-false}
-use Rattle.refusal.specs.declared.Refusal.{Refusal}
-use Rattle.refusal.specs.Refusal.{none}
+use Rattle.refusal.specs.Refusal.{Numbered, none}
 use Rattle.refusal.specs.Order.{first, in_turn}
 
 -- the first of two refusals
-module _ (r next : Refusal) where
+module _ (r next : Numbered) where
   pub first_next : r.no ≡ 0 → next ≡ first r next
   unfolding first
   first_next e = rw (eq-eqb r.no 0 e)
@@ -30,13 +29,13 @@ module _ (r next : Refusal) where
       go false h e = absurd (eqb-false _ _ h e)
 
 -- the entries in turn
-module _ (f : ℕ → Refusal) where
+module _ (f : ℕ → Numbered) where
   pub turn_fine : (n : ℕ) → ((k : ℕ) → k < n → (f k).no ≡ 0) → none ≡ in_turn f n
   unfolding in_turn
   turn_fine zero h = refl
   turn_fine (suc n) h =
       first_next (f n) none (h n (omega arith))
-      ∙ first_next (in_turn f n) (first (f n) none) (sym (ap (λ (r : Refusal). r.no) (turn_fine n (λ k l. h k (omega arith)))))
+      ∙ first_next (in_turn f n) (first (f n) none) (sym (ap (λ (r : Numbered). r.no) (turn_fine n (λ k l. h k (omega arith)))))
 
   pub turn_here : (n i : ℕ) → ((k : ℕ) → k < i → (f k).no ≡ 0) → ((f i).no ≡ 0 → ⊥) → i < n → f i ≡ in_turn f n
   unfolding in_turn
@@ -47,10 +46,10 @@ module _ (f : ℕ → Refusal) where
       last e =
           ap f e
           ∙ first_here (f n) none (λ z. b (ap (λ (j : ℕ). (f j).no) e ∙ z))
-          ∙ first_next (in_turn f n) (first (f n) none) (sym (ap (λ (r : Refusal). r.no) (turn_fine n (λ k l. h k (omega arith)))))
+          ∙ first_next (in_turn f n) (first (f n) none) (sym (ap (λ (r : Numbered). r.no) (turn_fine n (λ k l. h k (omega arith)))))
 
       before : f i ≡ in_turn f n → f i ≡ in_turn f (suc n)
-      before e = e ∙ first_here (in_turn f n) (first (f n) none) (λ z. b (ap (λ (r : Refusal). r.no) e ∙ z))
+      before e = e ∙ first_here (in_turn f n) (first (f n) none) (λ z. b (ap (λ (r : Numbered). r.no) e ∙ z))
 
   pub turn_all : (n : ℕ) → (in_turn f n).no ≡ 0 → (k : ℕ) → k < n → (f k).no ≡ 0
   unfolding in_turn

@@ -2,12 +2,13 @@
 use mathlib.Core.Path.{◌≡◌, refl, sym, ap, ap₂, subst, ◌∙◌}
 use mathlib.Core.Bool.{Bool, true, false, cond}
 use mathlib.Core.Logic.{⊎_elim}
-use Prim.Native.Nat.{ℕ, zero, suc, ◌+◌, ◌-◌, ◌*◌, ◌/◌, ◌%◌, ◌^◌, ◌≤◌, ◌<◌}
-use native.Mathlib.Nat.{le_trans, le_of_suc-le-suc, not-suc-le-zero, eq-or-lt_of_le, mul-add-mod_self_right, mul_assoc, mul-le-mul_right, pow-suc, add_comm, zero-mul, mod-lt, mod-le, mod-eq_of_lt, div-eq_of_lt, div-mul-le_self, div-add-mod', div-lt_iff_lt-mul}
+use Prim.Native.Nat.{ℕ, zero, suc, ◌+◌, ◌*◌, ◌/◌, ◌%◌, ◌^◌, ◌≤◌, ◌<◌}
+use native.Mathlib.Nat.{le_trans, le_of_suc-le-suc, not-suc-le-zero, eq-or-lt_of_le, mul-le-mul_right, pow-suc, add_comm, zero-mul, mod-lt, mod-le, mod-eq_of_lt, div-mul-le_self, div-add-mod', div-lt_iff_lt-mul}
 use native.Mathlib.Omega.{arith}
 use lib.Dec.{eqb}
 use borrow.Author.Tests.{eq-eqb, ne_eqb}
-use lib.Pow.{pow_pos, pow-add, pow_mono, high, field}
+use Rattle.std.proofs.lemmas.Nat.Bits.{bit_at_cat_low, bit_at_above}
+use lib.Pow.{pow_pos, pow_mono, high}
 use lib.Count.{ones, ones_cat}
 use Rattle.basics.specs.Sum.{sum, bit}
 use Rattle.sets.specs.Word.{word, member, unset, put}
@@ -43,15 +44,6 @@ ones_word zero p = ones_bit false
 ones_word (suc n) p = ones_cat n (bit (p n)) (word n p) (word_lt n p) ∙ ap₂ (λ (x y : ℕ). x + y) (ones_bit (p n)) (ones_word n p) ∙ add_comm (bit (p n)) _
 
 -- ---- a digit of a word
-low_digit : (i n b w : ℕ) → i < n → (b * 2 ^ n + w) / 2 ^ i % 2 ≡ w / 2 ^ i % 2
-low_digit i n b w h = sym (field (b * 2 ^ n + w) 1 i) ∙ ap (λ (x : ℕ). x / 2 ^ i) cut ∙ field w 1 i
-  where
-    split : 2 ^ n ≡ 2 ^ (n - (1 + i)) * 2 ^ (1 + i)
-    split = ap (λ (k : ℕ). 2 ^ k) (let e : n ≡ (n - (1 + i)) + (1 + i) = omega arith in e) ∙ pow-add 2 (n - (1 + i)) (1 + i)
-
-    cut : (b * 2 ^ n + w) % 2 ^ (1 + i) ≡ w % 2 ^ (1 + i)
-    cut = ap (λ (x : ℕ). (b * x + w) % 2 ^ (1 + i)) split ∙ ap (λ (x : ℕ). (x + w) % 2 ^ (1 + i)) (sym (mul_assoc b (2 ^ (n - (1 + i))) (2 ^ (1 + i)))) ∙ mul-add-mod_self_right (b * 2 ^ (n - (1 + i))) (2 ^ (1 + i)) w
-
 bit_mod : (b : Bool) → bit b % 2 ≡ bit b
 bit_mod true = refl
 bit_mod false = refl
@@ -65,7 +57,7 @@ digit_word zero i p h = absurd (not-suc-le-zero h)
 digit_word (suc n) i p h =
     ⊎_elim
     (λ e. ap (λ (x : ℕ). (bit (p n) * 2 ^ n + word n p) / 2 ^ x % 2) e ∙ top_digit n p ∙ ap (λ (x : ℕ). bit (p x)) (sym e))
-    (λ l. low_digit i n (bit (p n)) (word n p) l ∙ digit_word n i p l)
+    (λ l. bit_at_cat_low (bit (p n)) n (word n p) i l ∙ digit_word n i p l)
     (eq-or-lt_of_le (le_of_suc-le-suc h))
 
 eqb_bit : (b : Bool) → eqb (bit b) 1 ≡ b
@@ -87,7 +79,7 @@ bit_member i w = small (w / 2 ^ i % 2) (mod-lt (w / 2 ^ i) (omega arith))
 
 low_member : (n w i : ℕ) → i < n → member i w ≡ member i (w % 2 ^ n)
 unfolding member
-low_member n w i l = ap (λ (x : ℕ). eqb (x / 2 ^ i % 2) 1) (sym (div-add-mod' w (2 ^ n))) ∙ ap (λ (x : ℕ). eqb x 1) (low_digit i n (w / 2 ^ n) (w % 2 ^ n) l)
+low_member n w i l = ap (λ (x : ℕ). eqb (x / 2 ^ i % 2) 1) (sym (div-add-mod' w (2 ^ n))) ∙ ap (λ (x : ℕ). eqb x 1) (bit_at_cat_low (w / 2 ^ n) n (w % 2 ^ n) i l)
 
 -- a word is the word of its digits
 pub word_member : (n w : ℕ) → w < 2 ^ n → word n (λ i. member i w) ≡ w
@@ -108,10 +100,6 @@ pub put_same : (i w : ℕ) {b : Bool} → b ≡ member i w → put i b w ≡ w
 unfolding put unset
 put_same i w {b} e = rw (e, bit_member i w) (omega (arith, digit_le i w))
 
-pub put_false : (i w : ℕ) → put i false w ≡ unset i w
-unfolding put
-put_false i w = omega (arith, zero-mul (2 ^ i))
-
 abbrev pub with_row : ℕ → Bool → (ℕ → Bool) → ℕ → Bool
 with_row i b p k = cond (eqb k i) b (p k)
 
@@ -127,7 +115,7 @@ put_top n b p = rw (top_digit n p) (omega arith)
 
 put_low : (n i : ℕ) (b : Bool) (x w : ℕ) → i < n → put i b (x * 2 ^ n + w) ≡ x * 2 ^ n + put i b w
 unfolding put unset
-put_low n i b x w l = rw (low_digit i n x w l) (omega (arith, digit_le i w))
+put_low n i b x w l = rw (bit_at_cat_low x n w i l) (omega (arith, digit_le i w))
 
 pub put_word : (n i : ℕ) (b : Bool) (p : ℕ → Bool) → i < n → put i b (word n p) ≡ word n (with_row i b p)
 unfolding word
@@ -142,9 +130,6 @@ put_word (suc n) i b p h = ⊎_elim here (λ l. low l (put_word n i b p l)) (eq-
 
     low : i < n → put i b (word n p) ≡ word n (with_row i b p) → put i b (bit (p n) * 2 ^ n + word n p) ≡ bit (with_row i b p n) * 2 ^ n + word n (with_row i b p)
     low l ih = put_low n i b (bit (p n)) (word n p) l ∙ ap₂ (λ (x : Bool) (y : ℕ). bit x * 2 ^ n + y) (sym (with_other i b p (λ (z : n ≡ i). omega arith))) ih
-
-pub put_lt : (n i : ℕ) (b : Bool) (w : ℕ) → i < n → w < 2 ^ n → put i b w < 2 ^ n
-put_lt n i b w h l = subst (λ (x : ℕ). put i b x < 2 ^ n) (word_member n w l) (rw (put_word n i b (λ k. member k w) h) (word_lt n (with_row i b (λ k. member k w))))
 
 lt_pow : (w : ℕ) → w < 2 ^ w
 lt_pow zero = omega arith
@@ -162,8 +147,7 @@ member_put i b w =
 -- a row number past the width is in no word, and taking it out changes nothing
 pub member_high : (W i w : ℕ) → W ≤ i → w < 2 ^ W → member i w ≡ false
 unfolding member
-member_high W i w h l =
-    ap (λ (x : ℕ). eqb (x % 2) 1) (div-eq_of_lt (let k : w < 2 ^ i = omega (arith, pow_mono {i = W} {j = i} h) in k))
+member_high W i w h l = rw (bit_at_above w W i l h) refl
 
 pub put_high : (W i w : ℕ) → W ≤ i → w < 2 ^ W → put i false w ≡ w
 put_high W i w h l = put_same i w (sym (member_high W i w h l))

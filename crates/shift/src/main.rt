@@ -1,49 +1,27 @@
 // The shift check: a task file from standard input, its text to standard output.
 #![tactic(auto)]
 
-ghost use Rattle.std.specs.Prelude.{◌-◌, ◌≤◌, length};
-ghost use Rattle.shift.specs.Input.{count_of};
+ghost use Rattle.std.specs.Prelude.{◌≤◌, length, IfOk};
 
 use file_entries::limits::BYTES;
 use std::io::{self, Read, Stdin, Write};
 use text_shift::TEXT;
 
-// How many bytes were read, or why reading failed.
-#[derive(Drop)]
-enum Input {
-    Bytes(usize),
-    Failed(io::Error),
-}
-
-// Reads once, to a place of the buffer; 0 bytes mean that the input has ended.
-fn read_piece(input: &mut Stdin, file: &mut [u8], at: usize) -> Input
-    requires { at ≤ length file.old }
-    ensures { count_of result ≤ length file.old - at }
-{
-    let rest = &mut file[at..];
-    match input.read(rest) {
-        Ok(n) => Input::Bytes(n),
-        Err(error) => Input::Failed(error),
-    }
-}
-
-// Reads the input in whatever pieces it comes, until it ends or the buffer is full.
-fn read_file(input: &mut Stdin, file: &mut [u8]) -> Input
-    ensures { count_of result ≤ length file.new }
+// Reads the input in whatever pieces it comes, until it ends or the buffer is full, and tells how many bytes were read.
+// `read_exact` does not tell how many there were, and `read_to_end` asks for memory: so a loop, whose step is what was read.
+fn read_file(input: &mut Stdin, file: &mut [u8]) -> io::Result<usize>
+    ensures { IfOk result (λ n. n ≤ length file.new) }
 {
     let mut at: usize = 0;
     while at < file.len() {
-        match read_piece(input, file, at) {
-            Input::Bytes(n) => {
-                if n == 0 {
-                    return Input::Bytes(at);
-                }
-                at += n;
-            }
-            Input::Failed(error) => return Input::Failed(error),
+        let rest = &mut file[at..];
+        let n = input.read(rest)?;
+        if n == 0 {
+            break;
         }
+        at += n;
     }
-    Input::Bytes(at)
+    Ok(at)
 }
 
 // Writes the text of a file. The two lists are used again for each table.
@@ -64,7 +42,7 @@ fn write_text(rt: &HostRuntime, file: &[u8]) -> io::Result<()> {
 fn main(rt: HostRuntime) -> io::Result<()> {
     let mut file = [0u8; BYTES + 1];
     match read_file(&mut rt.stdin(), &mut file) {
-        Input::Bytes(n) => write_text(&rt, &file[..n]),
-        Input::Failed(error) => eprintln!(rt; "standard input: {error}"),
+        Ok(n) => write_text(&rt, &file[..n]),
+        Err(error) => eprintln!(rt; "standard input: {error}"),
     }
 }

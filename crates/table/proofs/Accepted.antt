@@ -10,12 +10,11 @@ use borrow.Author.Tests.{ltb-true, ltb-false, eqb-false, not-true}
 use Rattle.model.specs.Model.{Sound, Frame}
 use Rattle.table_row.specs.declared.Row.{Row}
 use Rattle.table.specs.declared.Table.{Table}
-use Rattle.table.specs.declared.Checked.TheVariants.{Frame as Whole, Refused}
 use Rattle.basics.specs.Least.{least}
 use Rattle.table.specs.Frame.{frame_of, over_at}
 use Rattle.table.specs.Rows.{row_at, beside_of}
 use Rattle.table_row.specs.Row.{row_refusal, faulty}
-use Rattle.table.specs.Check.{Numbers, numbers, refused, check_frame, check_each, check_rows, check_of}
+use Rattle.table.specs.Check.{Numbers, framed, refused, check_frame, check_each, check_rows, check_of}
 use Rattle.refusal.specs.Refusal.{none}
 use Rattle.basics.specs.Range.{inside}
 use Rattle.table.specs.Meaning.{model_of, Accepted}
@@ -25,7 +24,6 @@ use Rattle.table_row.proofs.Ranges.{InOrder, rows_in_order}
 use Rattle.basics.proofs.Range.{inside_true}
 use Rattle.table_row.specs.Limits.{most_processors, most_depths, most_rows, most_slots}
 use Rattle.table.specs.declared.Beside.{Beside}
-use Rattle.refusal.specs.declared.Refusal.{Refusal}
 use Rattle.basics.proofs.Range.{inside_true}
 
 -- a refusal: it has a number, and no frame
@@ -63,7 +61,7 @@ module _ (n : ℕ) (row : ℕ → Row) where
   frame_outcome l order = go (ltb (over_at (λ i. (row i).period) n) n) refl
     where
       go : (b : Bool) → ltb (over_at (λ i. (row i).period) n) n ≡ b
-          → let a = cond b (refused 7 (over_at (λ i. (row i).period) n)) (numbers (Whole (frame_of (λ i. (row i).period) n))) in Framed n row a ⊎ Rejected a
+          → let a = cond b (refused 7 (over_at (λ i. (row i).period) n)) (framed (frame_of (λ i. (row i).period) n)) in Framed n row a ⊎ Rejected a
       go true e = inr (reject 7 _ (omega arith))
       go false e = inl (record {
         fine = refl;
@@ -130,12 +128,8 @@ outcome t = ⊎_elim (λ f. inl (fine f, f.rows.fine)) inr (rows_outcome (beside
 pub accepted : (t : Table) → (check_of t).refusal.no ≡ 0 → Accepted t (check_of t).frame
 accepted t e = ⊎_elim (λ f. f.0) (λ r. absurd (omega (arith, r.number))) (outcome t)
 
-pub accepted_frame : (t : Table) (h : ℕ) → numbers (Whole h) ≡ check_of t → Accepted t h
+pub accepted_frame : (t : Table) (h : ℕ) → framed h ≡ check_of t → Accepted t h
 accepted_frame t h e = rw (ap (λ (a : Numbers). a.frame) e) (accepted t (sym (ap (λ (a : Numbers). a.refusal.no) e)))
-
--- an answer with a refusal in it: the table has that refusal, and its number is not 0
-pub rejected : (t : Table) (r : Refusal) → numbers (Refused r) ≡ check_of t → Rejected (check_of t)
-rejected t r e = ⊎_elim (λ f. absurd (omega (arith, f.0.frame_low, ap (λ (a : Numbers). a.frame) e))) (λ q. q) (outcome t)
 
 -- the model of an accepted table is sound, and its frame is a frame: every period divides it
 module _ (t : Table) (h : ℕ) (a : Accepted t h) where

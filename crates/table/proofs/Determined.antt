@@ -1,36 +1,54 @@
--- The contract of a check determines its answer: two answers that meet it are equal.
-use mathlib.Core.Path.{◌≡◌, sym, ap, ◌∙◌}
-use mathlib.Core.Logic.{◌⊎◌, inl, inr, ⊎_elim}
-use Prim.Native.Nat.{ℕ, ◌≤◌}
-use native.Mathlib.Omega.{arith}
+-- The contracts of the check, and of its steps, determine their answers: two answers that meet one are equal.
+use mathlib.Core.Path.{◌≡◌, sym, ap, subst₂, ◌∙◌}
+use Prim.Native.Nat.{ℕ}
+use Rattle.std.proofs.Props.{props}
+use Rattle.std.specs.Prelude.{Result, Ok, Err}
 use Rattle.refusal.specs.declared.Refusal.{Refusal}
+use Rattle.refusal.specs.Told.{told}
+use Rattle.refusal.proofs.Told.{number_some, told_once, told_in_once}
 use Rattle.table_row.specs.declared.Row.{Row}
 use Rattle.table.specs.declared.Table.{Table}
 use Rattle.table.specs.declared.Beside.{Beside}
-use Rattle.table.specs.declared.Checked.{Checked}
-use Rattle.table.specs.declared.Checked.TheVariants.{Frame, Refused}
-use Rattle.table.specs.Rows.{row_at, beside_of}
-use Rattle.table.specs.Check.{Numbers, numbers, check_rows, check_of}
-use Rattle.table.proofs.Accepted.{Rejected, rows_outcome}
+use Rattle.table.specs.declared.Seen.{Seen}
+use Rattle.table.specs.declared.framed.Framed.{Framed}
+use Rattle.table.specs.Meaning.{Accepted}
+use Rattle.table.specs.Check.{Numbers, framed, refused_by, numbers, check_rows, check_of}
+use Rattle.table.specs.Seen.{SeenNumbers, seen}
 
--- numbers with a frame, or with a refusal
-abbrev pub Given : Numbers → Type 0
-Given a = (1 ≤ a.frame) ⊎ Rejected a
+-- no frame is told as a refusal is
+pub apart : (h : ℕ) (r : Refusal) → framed h ≡ refused_by (told r) → ⊥
+apart h r e = number_some r.rule (sym (ap (λ (n : Numbers). n.refusal.no) e))
 
--- a frame and a refusal cannot both be the answer
-clash : {a : Numbers} {h : ℕ} {r : Refusal} → Given a → numbers (Frame h) ≡ a → numbers (Refused r) ≡ a → ⊥
-clash g p q =
-    ⊎_elim (λ l. omega (arith, ap (λ (n : Numbers). n.frame) q)) (λ l. omega (arith, l.number, ap (λ (n : Numbers). n.refusal.no) p)) g
+pub numbers_once : (r s : Result ℕ Refusal) → numbers r ≡ numbers s → r ≡ s
+numbers_once (Ok h) (Ok k) e = ap (λ (n : Numbers). Ok n.frame) e
+numbers_once (Ok h) (Err r) e = absurd (apart h r e)
+numbers_once (Err r) (Ok h) e = absurd (apart h r (sym e))
+numbers_once (Err r) (Err s) e = ap Err (told_once r s (ap (λ (n : Numbers). n.refusal) e))
 
-pub by_numbers : {a : Numbers} → Given a → (r s : Checked) → numbers r ≡ a → numbers s ≡ a → r ≡ s
-by_numbers g (Frame h) (Frame k) p q = ap (λ (n : Numbers). Frame n.frame) (p ∙ sym q)
-by_numbers g (Frame h) (Refused r) p q = absurd (clash g p q)
-by_numbers g (Refused r) (Frame h) p q = absurd (clash g q p)
-by_numbers g (Refused r) (Refused s) p q = ap (λ (n : Numbers). Refused n.refusal) (p ∙ sym q)
+pub rows_determined : (b : Beside) (n : ℕ) (row : ℕ → Row) (r s : Result ℕ Refusal) → numbers r ≡ check_rows b n row → numbers s ≡ check_rows b n row → r ≡ s
+rows_determined b n row r s p q = numbers_once r s (p ∙ sym q)
 
-pub rows_determined : (b : Beside) (n : ℕ) (row : ℕ → Row) (r s : Checked) → numbers r ≡ check_rows b n row → numbers s ≡ check_rows b n row → r ≡ s
-rows_determined b n row = by_numbers (⊎_elim (λ f. inl f.rows.frame_low) inr (rows_outcome b n row))
+pub determined : (t : Table) (r s : Result ℕ Refusal) → numbers r ≡ check_of t → numbers s ≡ check_of t → r ≡ s
+determined t r s p q = numbers_once r s (p ∙ sym q)
 
-pub determined : (t : Table) (r s : Checked) → numbers r ≡ check_of t → numbers s ≡ check_of t → r ≡ s
-unfolding check_of
-determined t = rows_determined (beside_of t) t.count (row_at t)
+-- the rows seen are told by their numbers
+with_fault : SeenNumbers → Result Unit Refusal → Seen
+with_fault n f = record { beside = n.beside; count = n.count; fault = f; frame = n.frame; last = n.last }
+
+pub seen_once : (s u : Seen) → seen s ≡ seen u → s ≡ u
+unfolding with_fault
+seen_once s u e =
+    ap (λ (n : SeenNumbers). with_fault n s.fault) e ∙ ap (with_fault (seen u)) (told_in_once s.fault u.fault (ap (λ (n : SeenNumbers). n.fault) e))
+
+-- an accepted table with its frame is told by the two
+accepted_once : (t : Table) (h : ℕ) → IsProp (Accepted t h)
+accepted_once t h = hlevel props
+
+made : (t : Table) (h : ℕ) → Accepted t h → Framed
+made t h a = record { table = t; frame = h; accepted = a }
+
+pub framed_once : (x y : Framed) → x.table ≡ y.table → x.frame ≡ y.frame → x ≡ y
+unfolding made
+framed_once x y e f =
+    subst₂ (λ (t : Table) (h : ℕ). (a : Accepted t h) → x ≡ made t h a) e f
+    (λ a. ap (made x.table x.frame) (accepted_once x.table x.frame x.accepted a)) y.accepted

@@ -9,14 +9,13 @@ use Rattle.table_row.specs.declared.Row.{Row}
 use Rattle.table.specs.declared.Table.{Table}
 use Rattle.table.specs.declared.Beside.{Beside}
 use Rattle.table_row.specs.Limits.{most_slots}
-use Rattle.table.specs.declared.Checked.TheVariants.{Frame}
 use Rattle.table_row.specs.Divisor.{multiple}
 use Rattle.basics.specs.Least.{least}
 use Rattle.basics.proofs.Least.{least_ext}
 use Rattle.table.specs.Frame.{frame_of, over_at}
 use Rattle.table.specs.Rows.{row_at, beside_of, Alike}
 use Rattle.table_row.specs.Row.{row_refusal, faulty}
-use Rattle.table.specs.Check.{Numbers, numbers, refused, check_frame, check_each, check_rows, check_of}
+use Rattle.table.specs.Check.{Numbers, framed, refused, check_frame, check_each, check_rows, check_of}
 use Rattle.table.specs.Seen.{ranges}
 
 frame_ext : (n : ℕ) {T U : ℕ → ℕ} → ((i : ℕ) → i < n → T i ≡ U i) → frame_of T n ≡ frame_of U n
@@ -35,7 +34,7 @@ module _ (n : ℕ) (row sow : ℕ → Row) (same : (i : ℕ) → i < n → row i
   check_frame_same : check_frame n row ≡ check_frame n sow
   unfolding check_frame
   check_frame_same =
-      ap₂ (λ (o f : ℕ). cond (ltb o n) (refused 7 o) (numbers (Frame f))) over_same (frame_ext n period_same)
+      ap₂ (λ (o f : ℕ). cond (ltb o n) (refused 7 o) (framed f)) over_same (frame_ext n period_same)
 
   first_same : least (λ i. faulty (row i)) n ≡ least (λ i. faulty (sow i)) n
   first_same = least_ext n (λ j h. ap faulty (same j h))

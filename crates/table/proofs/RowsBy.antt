@@ -1,11 +1,11 @@
 -- How a loop reads rows one after another into the room of a table.
 use mathlib.Core.Path.{◌≡◌, refl, sym, ap, ◌∙◌}
 use mathlib.Core.List.{[], ◌∷◌, ◌++◌, append_assoc, append-nil}
-use Prim.Native.Nat.{ℕ, zero, suc, ◌+◌, ◌-◌, ◌≤◌, ◌<◌}
+use Prim.Native.Nat.{ℕ, zero, suc, ◌+◌, ◌-◌, ◌<◌}
 use native.Mathlib.Nat.{add-zero, add-suc, le_of_eq}
 use native.Mathlib.Numerals.{add-one}
 use native.Mathlib.Omega.{arith}
-use lib.ListN.{length, set, replicate, take, length-append, length-replicate}
+use lib.ListN.{length, set, replicate, take, length-append}
 use lib.Seq.{set_at, take_all, take-append-le}
 use Rattle.table_row.specs.declared.Row.{Row}
 use Rattle.table_row.specs.Row.{no_row}
@@ -26,10 +26,6 @@ module _ (f : ℕ → Row) where
       ap (λ (n : ℕ). take k (rows_by f n)) (add-suc k j)
       ∙ take-append-le k (rows_by f (k + j)) _ (omega (arith, length_rows (k + j)))
       ∙ take_rows k j
-
-  pub length_room : (k : ℕ) → k ≤ most_rows → length (room_by f k) ≡ most_rows
-  unfolding room_by
-  length_room k h = simp (length-append, length_rows k, length-replicate) (omega arith)
 
   pub room_none : replicate most_rows no_row ≡ room_by f 0
   unfolding room_by rows_by

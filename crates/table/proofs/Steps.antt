@@ -9,11 +9,10 @@ use borrow.Author.Tests.{lt-ltb, le-ltb}
 use Rattle.table_row.specs.declared.Row.{Row}
 use Rattle.table.specs.declared.Beside.{Beside}
 use Rattle.table_row.specs.Limits.{most_processors, most_depths, most_rows, most_slots}
-use Rattle.table.specs.declared.Checked.TheVariants.{Frame}
 use Rattle.basics.specs.Least.{least}
 use Rattle.table.specs.Frame.{frame_of, over_at}
 use Rattle.table_row.specs.Row.{row_refusal, faulty}
-use Rattle.table.specs.Check.{Numbers, numbers, refused, check_frame, check_each, check_rows}
+use Rattle.table.specs.Check.{Numbers, framed, refused, check_frame, check_each, check_rows}
 use Rattle.basics.specs.Range.{inside}
 use Rattle.table.specs.Seen.{ranges}
 use Rattle.basics.proofs.Least.{least_found, least_none}
@@ -29,7 +28,7 @@ module _ (n : ℕ) (row : ℕ → Row) where
       let e : i ≡ over_at (λ j. (row j).period) n = least_found _ n i f (lt-ltb _ _ g) h in
       rw (← e, lt-ltb i n h)
 
-  pub frame_whole : (i h : ℕ) → i ≡ n → Small row i → h ≡ frame_of (λ j. (row j).period) i → numbers (Frame h) ≡ check_frame n row
+  pub frame_whole : (i h : ℕ) → i ≡ n → Small row i → h ≡ frame_of (λ j. (row j).period) i → framed h ≡ check_frame n row
   unfolding over_at check_frame
   frame_whole i h p f q =
       let e : n ≡ over_at (λ j. (row j).period) n = least_none _ n (λ k l. f k (omega arith)) in
@@ -44,14 +43,6 @@ module _ (n : ℕ) (row : ℕ → Row) where
   each_fine b p h = rw (← p, le-ltb b n h)
 
 module _ (a : Beside) (n : ℕ) (each : Numbers) where
-  pub range_m : inside 1 a.processors most_processors ≡ false → refused 1 0 ≡ ranges a n each
-  unfolding ranges
-  range_m p = rw p
-
-  pub range_x : inside 1 a.processors most_processors ≡ true → inside 1 a.depth most_depths ≡ false → refused 2 0 ≡ ranges a n each
-  unfolding ranges
-  range_x p q = rw (p, q)
-
   pub range_count : inside 1 a.processors most_processors ≡ true → inside 1 a.depth most_depths ≡ true → inside 1 n most_rows ≡ false → refused 3 0 ≡ ranges a n each
   unfolding ranges
   range_count p q r = rw (p, q, r)

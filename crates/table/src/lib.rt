@@ -3,15 +3,19 @@
 
 ghost use Rattle.std.specs.Prelude.{◌≡◌};
 ghost use Rattle.table.specs.Rows.{no_rows, beside_of, no_table};
-ghost use Rattle.table.specs.Check.{numbers, refused as refused_as, check_of, table_refusal};
-ghost use Rattle.table.specs.Seen.{none_seen, one_more, step_of, finish_of};
+ghost use Rattle.refusal.specs.Told.{told_in};
+ghost use Rattle.table.specs.Check.{numbers, check_of, table_refusal};
+ghost use Rattle.table.specs.Seen.{seen, none_seen, one_more, step_of, finish_of};
 
-use basics::{ranges, widths};
-use refusal::Refusal;
+use basics::ranges;
+use refusal::{Refusal, Rule};
 use table_row::limits::{DEPTHS, PROCESSORS, ROWS, SLOTS};
 use table_row::{Row, euclid};
 
-// Processors m, depth x, and room for the rows, of which the first `count` matter.
+pub mod framed;
+
+// Processors m, depth x, and room for the rows, of which the first `count` matter: a value, with the rows in a fixed array beside their
+// count, as the papers ask.
 #[repr(C)]
 #[derive(Clone, Copy)]
 pub struct Table {
@@ -29,22 +33,25 @@ pub struct Beside {
     pub depth: u16,
 }
 
-// What a check of a table answers: the frame, or a refusal.
-#[derive(Clone, Copy)]
-pub enum Checked {
-    Frame(u32),
-    Refused(Refusal),
+impl From<Table> for Beside {
+    ghost from_gives = { λ t b. b ≡ beside_of t };
+
+    fn from(t: Table) -> Beside {
+        Beside {
+            processors: t.processors,
+            depth: t.depth,
+        }
+    }
 }
 
 // What stands beside the rows, and what the rows seen so far come to: how many they are, one more than the most for all above it;
-// the first that is refused by itself, with its refusal, 0 where none is; and the multiple of their periods, which stops over the
-// longest frame, with the last row that it took in.
+// the first refusal of a row by itself; and the multiple of their periods, which stops over the longest frame, with the last row that
+// it took in.
 #[derive(Clone, Copy)]
 pub struct Seen {
     pub beside: Beside,
     pub count: u8,
-    pub no: u8,
-    pub row: u8,
+    pub fault: Result<(), Refusal>,
     pub frame: u32,
     pub last: u8,
 }
@@ -53,72 +60,59 @@ pub struct Seen {
 pub fn no_rows() -> [Row; ROWS]
     ensures { result ≡ no_rows }
 {
-    let row = table_row::no_row();
-    [row; ROWS]
+    [table_row::no_row(); ROWS]
 }
 
-// A table of zeros.
+// A table of zeros. No check accepts it, so it is no Default.
 pub fn no_table() -> Table
     ensures { result ≡ no_table }
 {
-    let rows = no_rows();
     Table {
         processors: 0,
         depth: 0,
         count: 0,
-        rows,
+        rows: no_rows(),
     }
-}
-
-// A refusal that names a row, as the answer of a check.
-pub fn refused(no: u8, row: u8) -> Checked
-    ensures { numbers result ≡ refused_as no row }
-{
-    Checked::Refused(refusal::in_row(no, row))
 }
 
 // No row yet.
 pub fn start(beside: Beside) -> Seen
-    ensures { result ≡ none_seen beside }
+    ensures { seen result ≡ none_seen beside }
 {
     Seen {
         beside,
         count: 0,
-        no: 0,
-        row: 0,
+        fault: Ok(()),
         frame: 1,
         last: 0,
     }
 }
 
 // Stands for every count above the most.
-const MANY: u8 = (ROWS + 1) as u8;
+const MANY: u8 = ROWS as u8 + 1;
 
+#[tactic(auto, unfolding(crate::specs::Seen::one_more))]
 fn one_more(n: u8) -> u8
     ensures { result ≡ one_more n }
 {
-    if widths::size_of_byte(n) < ROWS {
-        return n + 1;
-    }
-    MANY
+    n.min(ROWS as u8) + 1
 }
 
 // One row more.
+#[tactic(auto, unfolding(crate::specs::Seen::step_of, basics::specs::Range::inside))]
 pub fn step(s: Seen, row: Row) -> Seen
-    ensures { result ≡ step_of s row }
+    ensures { seen result ≡ step_of (seen s) row }
 {
     let mut u = s;
     u.count = one_more(s.count);
-    if s.no != 0 {
+    if s.fault.is_err() {
         return u;
     }
-    let no = table_row::row_refusal(row);
-    if no != 0 {
-        u.no = no;
-        u.row = s.count;
+    if let Err(rule) = table_row::row_refusal(row) {
+        u.fault = Err(Refusal::in_row(rule, s.count));
         return u;
     }
-    if !ranges::within(1, widths::size_of_word(s.frame), SLOTS) {
+    if !ranges::within(1, s.frame as usize, SLOTS) {
         return u;
     }
     u.frame = euclid::multiple(s.frame, row.period);
@@ -127,63 +121,46 @@ pub fn step(s: Seen, row: Row) -> Seen
 }
 
 // The frame of the rows seen, or their first refusal: 1, 2, 3, then the rows' 4, 5, 6, then 7.
-pub fn finish(s: Seen) -> Checked
-    ensures { numbers result ≡ finish_of s }
+#[tactic(auto, unfolding(crate::specs::Seen::finish_of, crate::specs::Seen::ranges, crate::specs::Seen::seen_each, basics::specs::Range::inside))]
+pub fn finish(s: Seen) -> Result<u32, Refusal>
+    ensures { numbers result ≡ finish_of (seen s) }
 {
-    if !ranges::within(1, widths::size_of_half(s.beside.processors), PROCESSORS) {
-        return refused(1, 0);
+    if !ranges::within(1, s.beside.processors as usize, PROCESSORS) {
+        return Err(Rule::Processors.into());
     }
-    if !ranges::within(1, widths::size_of_half(s.beside.depth), DEPTHS) {
-        return refused(2, 0);
+    if !ranges::within(1, s.beside.depth as usize, DEPTHS) {
+        return Err(Rule::Depth.into());
     }
-    if !ranges::within(1, widths::size_of_byte(s.count), ROWS) {
-        return refused(3, 0);
+    if !ranges::within(1, s.count as usize, ROWS) {
+        return Err(Rule::Count.into());
     }
-    if s.no != 0 {
-        return refused(s.no, s.row);
+    s.fault?;
+    if SLOTS < s.frame as usize {
+        return Err(Refusal::in_row(Rule::Frame, s.last));
     }
-    if SLOTS < widths::size_of_word(s.frame) {
-        return refused(7, s.last);
-    }
-    Checked::Frame(s.frame)
-}
-
-// What a table has beside its rows.
-pub fn beside_of(t: Table) -> Beside
-    ensures { result ≡ beside_of t }
-{
-    Beside {
-        processors: t.processors,
-        depth: t.depth,
-    }
+    Ok(s.frame)
 }
 
 // The frame of a table, or its first refusal.
-pub fn check(t: Table) -> Checked
+pub fn check(t: Table) -> Result<u32, Refusal>
     ensures { numbers result ≡ check_of t }
 {
-    let n = widths::size_of_half(t.count);
-    let mut s = start(beside_of(t));
+    let n = t.count as usize;
+    let mut s = start(t.into());
     if ROWS < n {
         s.count = MANY;
         return finish(s);
     }
-    let mut i: usize = 0;
-    while i < n {
-        let row = t.rows[i];
-        s = step(s, row);
-        i += 1;
+    for row in &t.rows[..n] {
+        s = step(s, *row);
     }
     finish(s)
 }
 
 // The refusal of a table, 1 to 7, or none.
-pub fn refusal_of(t: Table) -> Refusal
-    ensures { result ≡ table_refusal t }
+pub fn refusal_of(t: Table) -> Result<(), Refusal>
+    ensures { told_in result ≡ table_refusal t }
 {
-    let c = check(t);
-    match c {
-        Checked::Frame(_) => refusal::none(),
-        Checked::Refused(r) => r,
-    }
+    check(t)?;
+    Ok(())
 }

@@ -13,12 +13,11 @@ use Rattle.basics.proofs.Bools.{lt_or_ge, clash}
 use Rattle.table_row.specs.declared.Row.{Row}
 use Rattle.table.specs.declared.Table.{Table}
 use Rattle.table_row.specs.Limits.{most_processors, most_depths, most_rows, most_slots}
-use Rattle.table.specs.declared.Checked.TheVariants.{Frame}
 use Rattle.basics.specs.Least.{least}
 use Rattle.table.specs.Frame.{frame_of, over_at}
 use Rattle.table.specs.Rows.{row_at, beside_of}
 use Rattle.table_row.specs.Row.{row_refusal, faulty}
-use Rattle.table.specs.Check.{Numbers, numbers, refused, check_frame, check_each, check_rows, check_of}
+use Rattle.table.specs.Check.{Numbers, framed, refused, check_frame, check_each, check_rows, check_of}
 use Rattle.basics.proofs.Least.{least_here}
 use Rattle.table_row.proofs.Divisor.{multiple_pos, multiple_dvd_left}
 use Rattle.table.proofs.Frame.{frame_pos, frame_suc}
@@ -45,7 +44,7 @@ module _ (n : ℕ) (row : ℕ → Row) (fine : (i : ℕ) → i < n → faulty (r
       over = least (λ i. ltb most_slots (frame_of (λ j. (row j).period) (suc i))) (suc n)
 
       go : (b : Bool) → ltb over (suc n) ≡ b
-          → let a = cond b (refused 7 over) (numbers (Frame (frame_of (λ j. (row j).period) (suc n)))) in (a.refusal.no ≡ 0 → ⊥) → a.refusal.row ≡ n
+          → let a = cond b (refused 7 over) (framed (frame_of (λ j. (row j).period) (suc n))) in (a.refusal.no ≡ 0 → ⊥) → a.refusal.row ≡ n
       go true e f = ends_at (λ i. ltb most_slots (frame_of (λ j. (row j).period) (suc i))) n small (ltb-true _ _ e)
       go false e f = absurd (f refl)
 

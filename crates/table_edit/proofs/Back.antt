@@ -8,14 +8,12 @@ use lib.Seq.{take-append_seam, take_at}
 use Rattle.table_row.specs.declared.Row.{Row}
 use Rattle.table.specs.declared.Table.{Table}
 use Rattle.table_row.specs.Limits.{most_rows}
-use Rattle.refusal.specs.declared.Refusal.{Refusal}
+use Rattle.refusal.specs.Refusal.{Numbered, none}
 use Rattle.table_row.specs.Row.{no_row}
 use Rattle.table.specs.Check.{check_of}
-use Rattle.refusal.specs.Refusal.{none}
 use Rattle.table.proofs.Accepted.{accepted}
 use Rattle.table.proofs.Past.{past_the_count}
-use Rattle.table_edit.specs.declared.Edited.{Edited}
-use Rattle.table_edit.specs.Edit.{rows_of, with_rows, added, removed, edited, add_of, remove_of}
+use Rattle.table_edit.specs.Edit.{Edited, rows_of, with_rows, added, removed, edited, add_of, remove_of}
 use Rattle.table_edit.proofs.Rows.{length_rows, length_added}
 use Rattle.table_edit.proofs.Steps.{gives, remove_settled}
 use Rattle.table_edit.proofs.Results.{no_refusal, both, add_result}
@@ -57,4 +55,4 @@ module _ (t : Table) (row : Row) (full : length t.rows ≡ most_rows) (fine : (a
       ∙ sym (remove_settled u t.count (both t row fine).1 there)
       ∙ ap (λ (v : Table). edited u (check_of v).refusal v) last_removed
       ∙ sym (gives u (check_of (trimmed t)).refusal (trimmed t) trimmed_fine)
-      ∙ ap (λ (r : Refusal). record { refusal = r; table = trimmed t }) (no_refusal (trimmed t) trimmed_fine)
+      ∙ ap (λ (r : Numbered). record { refusal = r; table = trimmed t }) (no_refusal (trimmed t) trimmed_fine)

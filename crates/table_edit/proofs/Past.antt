@@ -9,9 +9,8 @@ use lib.Dec.{ltb, eqb}
 use lib.ListN.{length, take, drop}
 use lib.Seq.{ext_get_or}
 use borrow.Author.Tests.{eqb-true, eqb-false}
-use Rattle.basics.proofs.Bools.{test}
-use Rattle.refusal.specs.declared.Refusal.{Refusal}
-use Rattle.refusal.specs.Refusal.{refuse, none}
+use Rattle.std.proofs.lemmas.Bool.{cases_Bool}
+use Rattle.refusal.specs.Refusal.{Numbered, refuse, none}
 use Rattle.refusal.specs.Order.{first}
 use Rattle.refusal.proofs.Order.{first_next, first_here}
 use Rattle.table_row.specs.declared.Row.{Row}
@@ -29,12 +28,12 @@ use Rattle.table_edit.proofs.Places.{rows_at}
 use Rattle.table_edit.proofs.Results.{both, all, add_result, remove_result}
 
 -- what comes after a refusal matters only where there is none
-first_alike : (p q x y : Refusal) → p ≡ q → (p.no ≡ 0 → x ≡ y) → first p x ≡ first q y
+first_alike : (p q x y : Numbered) → p ≡ q → (p.no ≡ 0 → x ≡ y) → first p x ≡ first q y
 first_alike p q x y e f =
     ⊎_elim
-    (λ b. let z : p.no ≡ 0 = eqb-true _ _ b in sym (first_next p x z) ∙ f z ∙ first_next q y (sym (ap (λ (r : Refusal). r.no) e) ∙ z))
-    (λ b. let z : p.no ≡ 0 → ⊥ = eqb-false _ _ b in sym (first_here p x z) ∙ e ∙ first_here q y (λ k. z (ap (λ (r : Refusal). r.no) e ∙ k)))
-    (test (eqb p.no 0))
+    (λ b. let z : p.no ≡ 0 = eqb-true _ _ b in sym (first_next p x z) ∙ f z ∙ first_next q y (sym (ap (λ (r : Numbered). r.no) e) ∙ z))
+    (λ b. let z : p.no ≡ 0 → ⊥ = eqb-false _ _ b in sym (first_here p x z) ∙ e ∙ first_here q y (λ k. z (ap (λ (r : Numbered). r.no) e ∙ k)))
+    (cases_Bool (eqb p.no 0))
 
 module _ (t u : Table) (full : length t.rows ≡ most_rows) (full' : length u.rows ≡ most_rows) (a : Alike t u) where
   given_alike : (check_of t).refusal ≡ (check_of u).refusal
@@ -62,7 +61,7 @@ module _ (t u : Table) (full : length t.rows ≡ most_rows) (full' : length u.ro
 
     pub add_alike : (add_of t row).refusal.no ≡ 0 → add_of t row ≡ add_of u row
     add_alike e =
-        let e' = sym (ap (λ (r : Refusal). r.no) add_refusal_alike) ∙ e in
+        let e' = sym (ap (λ (r : Numbered). r.no) add_refusal_alike) ∙ e in
         add_result t row e
         ∙ ap (λ (v : Table). record { refusal = none; table = v }) (added_alike (both t row e).0)
         ∙ sym (add_result u row e')
@@ -83,7 +82,7 @@ module _ (t u : Table) (full : length t.rows ≡ most_rows) (full' : length u.ro
 
     pub remove_alike : (remove_of t index).refusal.no ≡ 0 → remove_of t index ≡ remove_of u index
     remove_alike e =
-        let e' = sym (ap (λ (r : Refusal). r.no) remove_refusal_alike) ∙ e in
+        let e' = sym (ap (λ (r : Numbered). r.no) remove_refusal_alike) ∙ e in
         remove_result t index e
         ∙ ap (λ (v : Table). record { refusal = none; table = v }) (removed_alike (all t index e).0)
         ∙ sym (remove_result u index e')

@@ -7,9 +7,8 @@ use borrow.Author.Tests.{le-ltb, ne_eqb}
 use Rattle.basics.proofs.Bools.{lt_or_ge}
 use Rattle.table_row.specs.declared.Row.{Row}
 use Rattle.table.specs.declared.Table.{Table}
-use Rattle.refusal.specs.declared.Refusal.{Refusal}
+use Rattle.refusal.specs.Refusal.{Numbered, none}
 use Rattle.table.specs.Check.{check_of}
-use Rattle.refusal.specs.Refusal.{none}
 use Rattle.table.proofs.Accepted.{outcome}
 use Rattle.refusal.specs.Order.{first}
 use Rattle.refusal.proofs.Order.{first_fine}
@@ -21,7 +20,7 @@ pub no_refusal : (t : Table) → (check_of t).refusal.no ≡ 0 → (check_of t).
 no_refusal t e = ⊎_elim (λ f. f.1) (λ r. absurd (omega (arith, r.number))) (outcome t)
 
 -- the table that comes back is the result or the given one, by the refusal
-refused_same : (t : Table) (r : Refusal) (result : Table) → ((edited t r result).refusal.no ≡ 0 → ⊥) → (edited t r result).table ≡ t
+refused_same : (t : Table) (r : Numbered) (result : Table) → ((edited t r result).refusal.no ≡ 0 → ⊥) → (edited t r result).table ≡ t
 unfolding edited
 refused_same t r result f = rw (ne_eqb _ _ f)
 
@@ -40,7 +39,7 @@ module _ (t : Table) (row : Row) where
   add_result e =
       let b = both e in
       sym (add_settled t row b.0) ∙ sym (gives t (check_of (added t row)).refusal (added t row) b.1)
-      ∙ ap (λ (r : Refusal). record { refusal = r; table = added t row }) (no_refusal (added t row) b.1)
+      ∙ ap (λ (r : Numbered). record { refusal = r; table = added t row }) (no_refusal (added t row) b.1)
 
   pub add_accepted : (add_of t row).refusal.no ≡ 0 → (check_of (add_of t row).table).refusal ≡ none
   add_accepted e = rw (add_result e) (no_refusal (added t row) (both e).1)
@@ -66,7 +65,7 @@ module _ (t : Table) (index : ℕ) where
   remove_result e =
       let b = all e in
       sym (remove_settled t index b.0 (row_there b.1.0)) ∙ sym (gives t (check_of (removed t index)).refusal (removed t index) b.1.1)
-      ∙ ap (λ (r : Refusal). record { refusal = r; table = removed t index }) (no_refusal (removed t index) b.1.1)
+      ∙ ap (λ (r : Numbered). record { refusal = r; table = removed t index }) (no_refusal (removed t index) b.1.1)
 
   pub remove_accepted : (remove_of t index).refusal.no ≡ 0 → (check_of (remove_of t index).table).refusal ≡ none
   remove_accepted e = rw (remove_result e) (no_refusal (removed t index) (all e).1.1)

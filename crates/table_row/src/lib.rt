@@ -2,9 +2,11 @@
 #![tactic(auto)]
 
 ghost use Rattle.std.specs.Prelude.{◌≡◌};
+ghost use Rattle.refusal.specs.Told.{number_in};
 ghost use Rattle.table_row.specs.Row.{no_row, row_refusal};
 
-use basics::{ranges, widths};
+use basics::ranges;
+use refusal::Rule;
 
 pub mod euclid;
 pub mod limits;
@@ -20,7 +22,7 @@ pub struct Row {
     pub deadline: u16,
 }
 
-// A row of zeros.
+// A row of zeros, as it stands past a table's count. No check accepts it, so it is no Default.
 pub fn no_row() -> Row
     ensures { result ≡ no_row }
 {
@@ -31,20 +33,21 @@ pub fn no_row() -> Row
     }
 }
 
-// The refusal of a row by itself, or 0: T, then D, then C.
-pub fn row_refusal(r: Row) -> u8
-    ensures { result ≡ row_refusal r }
+// The rule that a row breaks by itself: T, then D, then C.
+#[tactic(auto, unfolding(crate::specs::Row::row_refusal, basics::specs::Range::inside))]
+pub fn row_refusal(r: Row) -> Result<(), Rule>
+    ensures { number_in result ≡ row_refusal r }
 {
-    let period = widths::size_of_half(r.period);
+    let period = r.period as usize;
     if !ranges::within(1, period, SLOTS) {
-        return 4;
+        return Err(Rule::Period);
     }
-    let deadline = widths::size_of_half(r.deadline);
+    let deadline = r.deadline as usize;
     if !ranges::within(1, deadline, period) {
-        return 5;
+        return Err(Rule::Deadline);
     }
-    if !ranges::within(1, widths::size_of_half(r.execution), deadline) {
-        return 6;
+    if !ranges::within(1, r.execution as usize, deadline) {
+        return Err(Rule::Execution);
     }
-    0
+    Ok(())
 }

@@ -50,6 +50,9 @@ decimal_more (suc k) h =
     rw (le-ltb (suc k) 10 h)
     (ap (λ (ds : List ℕ). ds ++ (digit (suc k % 10) ∷ [])) (enough k (suc k / 10) (suc k / 10) (omega arith) (le_refl _)))
 
+pub decimal_one : (n : ℕ) → n < 10 → length (decimal n) ≡ 1
+decimal_one n h = rw (decimal_small n h)
+
 pub decimal_longer : (n : ℕ) → 10 ≤ n → length (decimal n) ≡ length (decimal (n / 10)) + 1
 decimal_longer n h = rw (decimal_more n h) (length-append (decimal (n / 10)) (digit (n % 10) ∷ []))
 

@@ -1,6 +1,7 @@
 -- Text written at a place of a lent output.
 use Rattle.std.specs.Prelude.{◌≡◌, cond, List, ℕ, ◌+◌, ◌≤◌, leb, length}
 use Rattle.file_bytes.specs.Over.{over}
+use Rattle.text_decimal.specs.declared.Output.{Output}
 
 -- the place after n bytes, in a room that has place for them; else the place itself
 abbrev pub place_after : ℕ → ℕ → ℕ → ℕ
@@ -11,6 +12,12 @@ pub record Put (out : List ℕ) (at : ℕ) (text out' : List ℕ) (r : ℕ) : Ty
   pub output : out' ≡ over out at text
   pub place : r ≡ place_after (length out) at (length text)
 
+-- the same, of an output that is lent with its place
+pub record PutIn (o : Output) (text : List ℕ) (o' : Output) : Type 0 where
+  pub same : o'.bytes.ghost_name ≡ o.bytes.ghost_name
+  pub put : Put o.bytes.now o.at text o'.bytes.now o'.at
+
 -- the same, where there is room
-abbrev pub Written : List ℕ → ℕ → List ℕ → List ℕ → ℕ → Type 0
-Written out at text out' r = at + length text ≤ length out → Put out at text out' r
+pub record Written (o : Output) (text : List ℕ) (o' : Output) : Type 0 where
+  pub same : o'.bytes.ghost_name ≡ o.bytes.ghost_name
+  pub put : o.at + length text ≤ length o.bytes.now → Put o.bytes.now o.at text o'.bytes.now o'.at

@@ -1,5 +1,5 @@
 -- The length of each line, one part after the other, and the line of a verdict.
-use mathlib.Core.Path.{◌≡◌, refl, sym, ap, ap₂, subst, ◌∙◌}
+use mathlib.Core.Path.{◌≡◌, refl, sym, ap, ap₂, ◌∙◌}
 use mathlib.Core.Bool.{not}
 use mathlib.Core.List.{List}
 use Prim.Native.Nat.{ℕ, ◌^◌, ◌≤◌, ◌<◌}
@@ -10,17 +10,15 @@ use borrow.Author.Tests.{not-true}
 use Rattle.table.specs.declared.Table.{Table}
 use Rattle.table_row.specs.Limits.{most_slots}
 use Rattle.judge.specs.declared.Verdict.{Verdict}
-use Rattle.judge.specs.declared.Verdict.TheVariants.{Infeasible, Undecided, Refused}
+use Rattle.judge.specs.declared.Verdict.TheVariants.{Infeasible, Undecided}
 use Rattle.judge.specs.Judge.{numbers, infeasible, judge_of, Judged}
 use Rattle.refusal.specs.declared.Refusal.{Refusal}
-use Rattle.text_decimal.specs.Put.{Written}
+use Rattle.refusal.specs.Refusal.{Numbered}
+use Rattle.refusal.specs.Told.{number}
+use Rattle.std.specs.Prelude.{Result, Ok, Err}
 use Rattle.text_decimal.proofs.Decimals.{decimal_32, decimal_16, decimal_8}
-use Rattle.text_lines.specs.Line.{part, longest, infeasible_line, undecided_line, refused_line, table_line}
+use Rattle.text_lines.specs.Line.{longest, infeasible_line, undecided_line, refused_line, table_line}
 use Rattle.text_lines.specs.Told.{verdict_line}
-
--- a part whose number was given in another width
-pub part_as : (word : List ℕ) {o o' : List ℕ} {at n k r : ℕ} → n ≡ k → Written o at (part word n) o' r → Written o at (part word k) o' r
-part_as word {o} {o'} {at} {r = r} e w = subst (λ (k : ℕ). Written o at (part word k) o' r) e w
 
 -- a line has room for a number of 16 bits and three of 32, for one of 16 and one of 32, and for three of 8
 pub infeasible_short : (number t work supply : ℕ) → number < 2 ^ 16 → t < 2 ^ 32 → work < 2 ^ 32 → supply < 2 ^ 32 → length (infeasible_line number t work supply) ≤ longest
@@ -32,18 +30,18 @@ pub undecided_short : (number h : ℕ) → number < 2 ^ 16 → h < 2 ^ 32 → le
 unfolding undecided_line
 undecided_short number h p q = simp length-append (omega (arith, decimal_16 number p, decimal_32 h q))
 
-pub refused_short : (r : Refusal) → r.no < 2 ^ 8 → r.entry < 2 ^ 8 → r.row < 2 ^ 8 → length (refused_line r) ≤ longest
+pub refused_short : (r : Numbered) → r.no < 2 ^ 8 → r.entry < 2 ^ 8 → r.row < 2 ^ 8 → length (refused_line r) ≤ longest
 unfolding refused_line
 refused_short r p q s = simp length-append (omega (arith, decimal_8 r.no p, decimal_8 r.entry q, decimal_8 r.row s))
 
 -- the line by the case of a verdict is the line by its numbers
-by_case : (number : ℕ) (v : Verdict) → infeasible v ≡ not (eqb (numbers v).t 0) → verdict_line number v ≡ table_line number (numbers v)
+by_case : (number : ℕ) (v : Result Verdict Refusal) → infeasible v ≡ not (eqb (numbers v).t 0) → verdict_line number v ≡ table_line number (numbers v)
 unfolding table_line
-by_case number (Infeasible t work supply h) e = rw (not-true (eqb t 0) (sym e))
-by_case number (Undecided h) e = refl
-by_case number (Refused r) e = refl
+by_case number (Ok (Infeasible t work supply h)) e = rw (not-true (eqb t 0) (sym e))
+by_case number (Ok (Undecided h)) e = refl
+by_case number (Err r) e = refl
 
-pub verdict_line_lem : (number : ℕ) {t : Table} {map pins map' pins' : List ℕ} {v : Verdict} → Judged t map pins map' pins' v
+pub verdict_line_lem : (number : ℕ) {t : Table} {map pins map' pins' : List ℕ} {v : Result Verdict Refusal} → Judged t map pins map' pins' v
     → length map ≡ most_slots → length pins ≡ most_slots → verdict_line number v ≡ table_line number (judge_of t most_slots most_slots)
 verdict_line_lem number {t} {map} {pins} {v = v} j p q =
     by_case number v j.case ∙ ap (table_line number) (j.answer ∙ ap₂ (judge_of t) p q)

@@ -1,6 +1,6 @@
 -- The lines of the shift check: "Single spaces, decimal, newline at the end."
 use Rattle.std.specs.Prelude.{cond, List, ◌++◌, ℕ, eqb}
-use Rattle.refusal.specs.declared.Refusal.{Refusal}
+use Rattle.refusal.specs.Refusal.{Numbered}
 use Rattle.judge.specs.Judge.{Numbers}
 use Rattle.text_decimal.specs.Decimal.{decimal}
 use Rattle.text_decimal.specs.Words.{table_word, infeasible_word, undecided_word, refused_word, space, newline}
@@ -23,7 +23,7 @@ unfoldable pub undecided_line : ℕ → ℕ → List ℕ
 undecided_line number h = (part table_word number ++ part undecided_word h) ++ newline
 
 -- "or, for a refused file, the single line `REFUSED`, number, entry, row"
-unfoldable pub refused_line : Refusal → List ℕ
+unfoldable pub refused_line : Numbered → List ℕ
 refused_line r = ((part refused_word r.no ++ part space r.entry) ++ part space r.row) ++ newline
 
 -- the line of a table with a number, by the numbers of its verdict: where no length fails t is 0

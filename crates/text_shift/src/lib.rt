@@ -4,9 +4,12 @@
 ghost use Rattle.text_shift.specs.Shift.{Shifted};
 ghost use Rattle.text_shift.specs.Steps.{Entered, Through};
 
+use file_entries::Entry;
 use file_entries::limits::ENTRIES;
+use file_kinds::Kind;
 use sets::Set;
 use table_row::limits::SLOTS;
+use text_decimal::Output;
 use text_lines::LONGEST;
 
 // Every text has room in so many bytes: the lines of as many entries as a file may have.
@@ -18,18 +21,16 @@ fn put_entry(
     i: u16,
     map: &mut [Set; SLOTS],
     pins: &mut [Set; SLOTS],
-    out: &mut [u8],
-    at: usize,
-) -> usize
-    ensures { Entered file.now i map.old pins.old out.old at map.new pins.new out.new result }
+    output: &mut Output,
+)
+    ensures { Entered file.now i map.old pins.old output.old map.new pins.new output.new }
 {
-    let kind = file_kinds::kind_of(file_entries::kind_at(file, i));
-    if !file_kinds::is_table(kind) {
-        return at;
+    let entry = Entry::read(file, i);
+    if file_kinds::kind_of(entry.kind) == Some(Kind::Table) {
+        let t = file_bodies::table_at(file, i);
+        let v = judge::judge(t, map, pins);
+        text_lines::put_verdict(output, entry.number, v);
     }
-    let t = file_bodies::table_at(file, i);
-    let v = judge::judge(t, map, pins);
-    text_lines::put_verdict(out, at, file_entries::number_at(file, i), v)
 }
 
 // Writes the lines of the first n entries, in the order of the contents.
@@ -38,17 +39,13 @@ fn put_lines(
     n: u16,
     map: &mut [Set; SLOTS],
     pins: &mut [Set; SLOTS],
-    out: &mut [u8],
-) -> usize
-    ensures { Through file.now n map.old pins.old out.old map.new pins.new out.new result }
+    output: &mut Output,
+)
+    ensures { Through file.now n map.old pins.old output.old map.new pins.new output.new }
 {
-    let mut at: usize = 0;
-    let mut i: u16 = 0;
-    while i < n {
-        at = put_entry(file, i, map, pins, out, at);
-        i += 1;
+    for i in 0..n {
+        put_entry(file, i, map, pins, output);
     }
-    at
 }
 
 // Writes the text of a file from the start of the output on, and tells its length. Every text has room there.
@@ -60,9 +57,10 @@ pub fn shift_text(
 ) -> usize
     ensures { Shifted file.now map.old pins.old out.old map.new pins.new out.new result }
 {
-    let r = file_check::file_refusal(file);
-    if r.no != 0 {
-        return text_lines::put_refused(out, 0, r);
+    let mut output = Output { bytes: out, at: 0 };
+    match file_check::file_refusal(file) {
+        Ok(()) => put_lines(file, file_entries::count(file), map, pins, &mut output),
+        Err(r) => text_lines::put_refused(&mut output, r),
     }
-    put_lines(file, file_entries::count(file), map, pins, out)
+    output.at
 }

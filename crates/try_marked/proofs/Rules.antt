@@ -11,28 +11,29 @@ use borrow.Author.Tests.{eqb-true, le-ltb}
 use Rattle.model.specs.Depths.{available, pinned_at}
 use Rattle.basics.proofs.Bools.{and_left, and_right}
 use Rattle.basics.proofs.Sums.{all_at}
-use Rattle.table.specs.declared.Checked.TheVariants.{Frame}
-use Rattle.table.specs.Check.{numbers, check_of}
+use Rattle.table.specs.Check.{framed, check_of}
 use Rattle.refusal.specs.Refusal.{none}
 use Rattle.table.proofs.Accepted.{outcome}
 use Rattle.sets.specs.Word.{words}
 use Rattle.judge_scan.specs.declared.Line.{Line}
 use Rattle.judge_scan.specs.Lines.{line_at}
+use Rattle.std.specs.Prelude.{Result}
+use Rattle.refusal.specs.declared.Refusal.{Refusal}
 use Rattle.judge.specs.declared.Verdict.{Verdict}
 use Rattle.judge_admit.specs.Admit.{admit_of}
 use Rattle.judge.specs.Judge.{given, numbers as verdict_numbers, judge_of, Judged}
 use Rattle.judge_admit.proofs.Admitted.{admit_frame}
 use Rattle.judge.proofs.Meaning.{map_left, pins_left}
 use Rattle.try_marked.specs.declared.Case.{Case}
-use Rattle.try_marked.specs.Case.{no_case, case_table, model_in, line_in, checks, same_line, answers, mapped, pinned_in, right}
+use Rattle.try_marked.specs.Case.{no_case, case_table, model_in, line_in, map_of, pins_of, checks, same_line, answers, mapped, pinned_in, right}
 use Rattle.try_marked.specs.Paper.{Kept}
 
 -- an entry that agrees with the rules
 pub record Right (c : Case) : Type 0 where
-  pub check : numbers (Frame c.frame) ≡ check_of (case_table c)
+  pub check : framed c.frame ≡ check_of (case_table c)
   pub line : line_at (model_in c) c.depth c.frame ≡ line_in c
-  pub map : (s : ℕ) → s < c.words → words (model_in c) (available (model_in c) c.depth) s ≡ get_or c.map s 0
-  pub pins : (s : ℕ) → s < c.words → words (model_in c) (pinned_at (model_in c) (c.depth - 1)) s ≡ get_or c.pins s 0
+  pub map : (s : ℕ) → s < length (map_of c.lists) → words (model_in c) (available (model_in c) c.depth) s ≡ get_or (map_of c.lists) s 0
+  pub pins : (s : ℕ) → s < length (pins_of c.lists) → words (model_in c) (pinned_at (model_in c) (c.depth - 1)) s ≡ get_or (pins_of c.lists) s 0
 
 same_line_lem : (l k : Line) → same_line l k ≡ true → l ≡ k
 same_line_lem l k e =
@@ -42,7 +43,7 @@ same_line_lem l k e =
     let supply : l.supply ≡ k.supply = eqb-true _ _ (and_right (eqb l.work k.work) _ rest) in
     λ i. record { t = t i; work = work i; supply = supply i }
 
-check_is : (c : Case) → checks c ≡ true → numbers (Frame c.frame) ≡ check_of (case_table c)
+check_is : (c : Case) → checks c ≡ true → framed c.frame ≡ check_of (case_table c)
 unfolding checks
 check_is c e =
     let a = check_of (case_table c) in
@@ -59,8 +60,8 @@ right_is c e =
     record {
       check = check_is c (and_left (checks c) _ e);
       line = same_line_lem _ _ (and_left (answers c) _ rest);
-      map = λ s l. eqb-true _ _ (all_at c.words _ (and_left (mapped c) _ lists) s l);
-      pins = λ s l. eqb-true _ _ (all_at c.words _ (and_right (mapped c) _ lists) s l);
+      map = λ s l. eqb-true _ _ (all_at (length (map_of c.lists)) _ (and_left (mapped c) _ lists) s l);
+      pins = λ s l. eqb-true _ _ (all_at (length (pins_of c.lists)) _ (and_right (mapped c) _ lists) s l);
     }
 
 -- the one statement, at each entry
@@ -72,9 +73,9 @@ pub determined : (r s : List Case) → Kept r → Kept s → r ≡ s
 determined r s p q = p.entries ∙ sym q.entries
 
 -- the judge on an entry that is right, with lists that are long enough: its verdict is the entry's answer, and its lists hold the words that are told
-module _ (c : Case) (R : Right c) (map pins map' pins' : List ℕ) (m : c.frame ≤ length map) (p : c.frame ≤ length pins) (r : Verdict)
+module _ (c : Case) (R : Right c) (map pins map' pins' : List ℕ) (m : c.frame ≤ length map) (p : c.frame ≤ length pins) (r : Result Verdict Refusal)
     (J : Judged (case_table c) map pins map' pins' r) where
-  admits : admit_of (case_table c) (length map) (length pins) ≡ numbers (Frame c.frame)
+  admits : admit_of (case_table c) (length map) (length pins) ≡ framed c.frame
   admits = sym (admit_frame (case_table c) (length map) (length pins) c.frame R.check) ∙ rw (le-ltb _ _ m, le-ltb _ _ p)
 
   pub answer_judged : verdict_numbers r ≡ given (line_in c) c.frame
@@ -87,8 +88,8 @@ module _ (c : Case) (R : Right c) (map pins map' pins' : List ℕ) (m : c.frame 
   within : {s : ℕ} → s < c.frame → s < (verdict_numbers r).frame
   within l = rw answer_judged l
 
-  pub map_judged : (s : ℕ) → s < c.words → s < c.frame → get_or map' s 0 ≡ get_or c.map s 0
+  pub map_judged : (s : ℕ) → s < length (map_of c.lists) → s < c.frame → get_or map' s 0 ≡ get_or (map_of c.lists) s 0
   map_judged s l h = map_left (case_table c) map pins map' pins' r J accepts s (within h) ∙ R.map s l
 
-  pub pins_judged : (s : ℕ) → s < c.words → s < c.frame → get_or pins' s 0 ≡ get_or c.pins s 0
+  pub pins_judged : (s : ℕ) → s < length (pins_of c.lists) → s < c.frame → get_or pins' s 0 ≡ get_or (pins_of c.lists) s 0
   pins_judged s l h = pins_left (case_table c) map pins map' pins' r J accepts s (within h) ∙ R.pins s l

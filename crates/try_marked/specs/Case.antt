@@ -1,5 +1,5 @@
 -- An entry of the marked tables, and when it is right, as a test that computes.
-use Rattle.std.specs.Prelude.{Bool, ◌&&◌, List, [], ◌∷◌, ◌++◌, ℕ, ◌-◌, ◌/◌, eqb, length, get_or, take, replicate}
+use Rattle.std.specs.Prelude.{Bool, ◌&&◌, List, [], ◌∷◌, ◌++◌, ℕ, ◌-◌, eqb, length, get_or, take, replicate, Option, Some, None}
 use Rattle.basics.specs.Sum.{all}
 use Rattle.model.specs.Model.{Model}
 use Rattle.model.specs.Depths.{available, pinned_at}
@@ -8,33 +8,36 @@ use Rattle.table.specs.Check.{check_of}
 use Rattle.table.specs.Meaning.{model_of}
 use Rattle.sets.specs.Word.{words}
 use Rattle.judge_scan.specs.declared.Line.{Line}
-use Rattle.judge_scan.specs.Lines.{line_at}
+use Rattle.judge_scan.specs.Lines.{no_line, line_at}
 use Rattle.try_marked.specs.declared.Case.{Case}
+use Rattle.try_marked.specs.declared.Lists.{Lists}
 use Rattle.try_marked.specs.Rows.{table_from}
 
--- m, x, and T, C and D of each row in turn; the frame and the line; how many words of both lists are told, and those words
-abbrev pub told : ℕ → ℕ → List ℕ → ℕ → ℕ → ℕ → ℕ → ℕ → List ℕ → List ℕ → Case
-told m x rows h t work supply n map pins = record {
+-- T, C and D, as the rows of the tables stand
+abbrev pub row : ℕ → ℕ → ℕ → List ℕ
+row t c d = t ∷ c ∷ d ∷ []
+
+-- m, x and the rows; the frame; t, work and supply of an infeasible table; and both lists where they are told
+abbrev pub told : ℕ → ℕ → List (List ℕ) → ℕ → Option (List ℕ) → Option Lists → Case
+told m x rows h line lists = record {
   processors = m;
   depth = x;
-  count = length rows / 3;
-  rows = take 12 (rows ++ replicate 12 0);
+  count = length rows;
+  rows = take 4 (rows ++ replicate 4 (row 0 0 0));
   frame = h;
-  line = t ∷ work ∷ supply ∷ [];
-  words = n;
-  map = map;
-  pins = pins;
+  line = line;
+  lists = lists;
 }
 
-abbrev pub infeasible_at : ℕ → ℕ → List ℕ → ℕ → ℕ → ℕ → ℕ → Case
-infeasible_at m x rows h t work supply = told m x rows h t work supply 0 (replicate 4 0) (replicate 4 0)
+abbrev pub infeasible_at : ℕ → ℕ → List (List ℕ) → ℕ → ℕ → ℕ → ℕ → Case
+infeasible_at m x rows h t work supply = told m x rows h (Some (t ∷ work ∷ supply ∷ [])) None
 
-abbrev pub undecided : ℕ → ℕ → List ℕ → ℕ → Case
-undecided m x rows h = infeasible_at m x rows h 0 0 0
+abbrev pub undecided : ℕ → ℕ → List (List ℕ) → ℕ → Case
+undecided m x rows h = told m x rows h None None
 
 -- undecided, with a frame of four slots and all words of both lists
-abbrev pub with_lists : ℕ → ℕ → List ℕ → List ℕ → List ℕ → Case
-with_lists m x rows map pins = told m x rows 4 0 0 0 4 map pins
+abbrev pub with_lists : ℕ → ℕ → List (List ℕ) → List ℕ → List ℕ → Case
+with_lists m x rows map pins = told m x rows 4 None (Some (record { map = map; pins = pins }))
 
 -- a case of zeros
 abbrev pub no_case : Case
@@ -46,9 +49,22 @@ case_table c = table_from c.processors c.depth c.count c.rows
 abbrev pub model_in : Case → Model
 model_in c = model_of (case_table c)
 
--- its line: t, work and supply
+-- its line: t, work and supply, or three zeros
+abbrev pub line_by : Option (List ℕ) → Line
+line_by None = no_line
+line_by (Some l) = record { t = get_or l 0 0; work = get_or l 1 0; supply = get_or l 2 0 }
+
 abbrev pub line_in : Case → Line
-line_in c = record { t = get_or c.line 0 0; work = get_or c.line 1 0; supply = get_or c.line 2 0 }
+line_in c = line_by c.line
+
+-- the words that are told, none where the lists are not
+abbrev pub map_of : Option Lists → List ℕ
+map_of None = []
+map_of (Some l) = l.map
+
+abbrev pub pins_of : Option Lists → List ℕ
+pins_of None = []
+pins_of (Some l) = l.pins
 
 -- its table is accepted, with its frame
 unfoldable pub checks : Case → Bool
@@ -63,11 +79,15 @@ answers c = same_line (line_at (model_in c) c.depth c.frame) (line_in c)
 
 -- its words are those of the available sets at its depth
 unfoldable pub mapped : Case → Bool
-mapped c = all c.words (λ s. eqb (words (model_in c) (available (model_in c) c.depth) s) (get_or c.map s 0))
+mapped c =
+    let told = map_of c.lists in
+    all (length told) (λ s. eqb (words (model_in c) (available (model_in c) c.depth) s) (get_or told s 0))
 
 -- and those of the pinned sets at the depth before
 unfoldable pub pinned_in : Case → Bool
-pinned_in c = all c.words (λ s. eqb (words (model_in c) (pinned_at (model_in c) (c.depth - 1)) s) (get_or c.pins s 0))
+pinned_in c =
+    let told = pins_of c.lists in
+    all (length told) (λ s. eqb (words (model_in c) (pinned_at (model_in c) (c.depth - 1)) s) (get_or told s 0))
 
 unfoldable pub right : Case → Bool
 right c = checks c && (answers c && (mapped c && pinned_in c))

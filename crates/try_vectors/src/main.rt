@@ -1,143 +1,132 @@
-// Runs the judge and the ladder on hand tables of the papers, and writes a line for each: the table, the answer, and words of both lists.
+// Runs the judge and the ladder on tables tried by hand, and writes a line for each: the table, the answer, and words of both lists.
 #![tactic(auto)]
 
-ghost use Rattle.std.specs.Prelude.{◌≤◌};
-
-use basics::{ranges, widths};
 use judge::Verdict;
 use judge_ladder::Square;
-use judge_scan::Line;
 use refusal::Refusal;
 use sets::Set;
 use std::io;
 use table::Table;
-use table_row::Row;
 use table_row::limits::SLOTS;
 
-mod text;
 mod tries;
 
-use tries::Try;
+use tries::{CLIMBED, JUDGED, Lent, Try};
 
-fn bytes(rt: &HostRuntime, a: u8, b: u8, c: u8) -> io::Result<()> {
-    text::three(
-        rt,
-        widths::word_of_byte(a),
-        widths::word_of_byte(b),
-        widths::word_of_byte(c),
-    )
+#[derive(Clone, Copy)]
+enum Asked {
+    Judge,
+    Ladder,
 }
 
-fn halves(rt: &HostRuntime, a: u16, b: u16, c: u16) -> io::Result<()> {
-    text::three(
-        rt,
-        widths::word_of_half(a),
-        widths::word_of_half(b),
-        widths::word_of_half(c),
-    )
+// A table, with the four rows that a try has at the most.
+fn table(rt: &impl Print, t: Table) -> io::Result<()> {
+    print!(rt; " {} {} {} rows", t.processors, t.depth, t.count)?;
+    for row in &t.rows[..4] {
+        print!(rt; " {} {} {}", row.period, row.execution, row.deadline)?;
+    }
+    Ok(())
 }
 
-fn row(rt: &HostRuntime, r: Row) -> io::Result<()> {
-    halves(rt, r.period, r.execution, r.deadline)
+fn refusal(rt: &impl Print, r: Refusal) -> io::Result<()> {
+    print!(rt; " {} {} {}", r.rule as u8, r.entry, r.row)
 }
 
-fn table(rt: &HostRuntime, name: &[u8], t: Table) -> io::Result<()> {
-    let rows = t.rows;
-    text::word(rt, name)?;
-    halves(rt, t.processors, t.depth, t.count)?;
-    text::word(rt, b" rows")?;
-    row(rt, rows[0])?;
-    row(rt, rows[1])?;
-    row(rt, rows[2])?;
-    row(rt, rows[3])
-}
-
-fn refusal(rt: &HostRuntime, name: &[u8], r: Refusal) -> io::Result<()> {
-    text::word(rt, name)?;
-    bytes(rt, r.no, r.entry, r.row)
-}
-
-fn verdict(rt: &HostRuntime, v: Verdict) -> io::Result<()> {
+fn verdict(rt: &impl Print, v: Result<Verdict, Refusal>) -> io::Result<()> {
     match v {
-        Verdict::Infeasible {
-            t,
-            work,
-            supply,
-            frame,
-        } => {
-            text::word(rt, b" INFEASIBLE")?;
-            text::three(rt, t, work, supply)?;
-            text::number(rt, frame)
+        Ok(
+            Verdict::Infeasible {
+                t,
+                work,
+                supply,
+                frame,
+            },
+        ) => print!(rt; " INFEASIBLE {t} {work} {supply} {frame}"),
+        Ok(Verdict::Undecided { frame }) => print!(rt; " UNDECIDED {frame}"),
+        Err(r) => {
+            print!(rt; " REFUSED")?;
+            refusal(rt, r)
         }
-        Verdict::Undecided { frame } => {
-            text::word(rt, b" UNDECIDED")?;
-            text::number(rt, frame)
+    }
+}
+
+// The refusal of the ladder, or three zeros; and its lines.
+fn square(rt: &impl Print, given: Square) -> io::Result<()> {
+    print!(rt; " refusal")?;
+    match given.refusal {
+        Ok(()) => print!(rt; " 0 0 0")?,
+        Err(r) => refusal(rt, r)?,
+    }
+    print!(rt; " lines")?;
+    for line in &given.lines {
+        print!(rt; " {} {} {}", line.t, line.work, line.supply)?;
+    }
+    Ok(())
+}
+
+// A table, and the answer on it.
+fn answer(
+    rt: &impl Print,
+    asked: Asked,
+    t: Table,
+    map: &mut [Set],
+    pins: &mut [Set],
+) -> io::Result<()> {
+    match asked {
+        Asked::Judge => {
+            print!(rt; "judge")?;
+            table(rt, t)?;
+            verdict(rt, judge::judge(t, map, pins))
         }
-        Verdict::Refused(r) => refusal(rt, b" REFUSED", r),
+        Asked::Ladder => {
+            print!(rt; "ladder")?;
+            table(rt, t)?;
+            square(rt, judge_ladder::ladder(t, map, pins))
+        }
     }
 }
 
-fn line(rt: &HostRuntime, l: Line) -> io::Result<()> {
-    text::three(rt, l.t, l.work, l.supply)
-}
-
-fn square(rt: &HostRuntime, s: Square) -> io::Result<()> {
-    refusal(rt, b" refusal", s.refusal)?;
-    text::word(rt, b" lines")?;
-    let lines = s.lines;
-    line(rt, lines[0])?;
-    line(rt, lines[1])?;
-    line(rt, lines[2])?;
-    line(rt, lines[3])?;
-    line(rt, lines[4])?;
-    line(rt, lines[5])?;
-    line(rt, lines[6])?;
-    line(rt, lines[7])
-}
-
-// The table of a try, and the answer on it.
-fn answer(rt: &HostRuntime, u: Try, map: &mut [Set], pins: &mut [Set]) -> io::Result<()> {
-    if u.ladder {
-        table(rt, b"ladder", u.table)?;
-        return square(rt, judge_ladder::ladder(u.table, map, pins));
+// The first n words of a list, after its name; nothing where n is 0.
+fn list(rt: &impl Print, name: &str, words: &[Set], n: usize) -> io::Result<()> {
+    if n == 0 {
+        return Ok(());
     }
-    table(rt, b"judge", u.table)?;
-    verdict(rt, judge::judge(u.table, map, pins))
-}
-
-// How many words are lent of a list that has so many.
-fn share(words: u8, all: usize) -> usize
-    ensures { result ≤ all }
-{
-    if words == 1 {
-        return all;
+    print!(rt; " {name}")?;
+    for word in words.iter().take(n) {
+        print!(rt; " {word}")?;
     }
-    ranges::lesser(widths::size_of_byte(words), all)
-}
-
-// The same with as many words of both lists as the try lends.
-fn lend(rt: &HostRuntime, u: Try, map: &mut [Set], pins: &mut [Set]) -> io::Result<()> {
-    let a = share(u.map, map.len());
-    let b = share(u.pins, pins.len());
-    answer(rt, u, &mut map[..a], &mut pins[..b])
+    Ok(())
 }
 
 // One try. Both lists hold 7 everywhere before, so that what is left alone shows.
-fn tried(rt: &HostRuntime, u: Try) -> io::Result<()> {
+fn tried(rt: &impl Print, asked: Asked, u: &Try) -> io::Result<()> {
     let mut map: [Set; SLOTS] = [7; SLOTS];
     let mut pins: [Set; SLOTS] = [7; SLOTS];
-    lend(rt, u, &mut map, &mut pins)?;
-    let n = widths::size_of_byte(u.told);
-    text::list(rt, b" map", &map, n)?;
-    text::list(rt, b" pins", &pins, n)?;
-    text::word(rt, b"\n")
+    let Try(.., lent, told) = *u;
+    let (a, b) = match lent {
+        Lent::All => (SLOTS, SLOTS),
+        Lent::Map(n) => (n, SLOTS),
+        Lent::Pins(n) => (SLOTS, n),
+        Lent::Both(n) => (n, n),
+    };
+    answer(
+        rt,
+        asked,
+        u.table(),
+        &mut map[..a.min(SLOTS)],
+        &mut pins[..b.min(SLOTS)],
+    )?;
+    list(rt, "map", &map, told)?;
+    list(rt, "pins", &pins, told)?;
+    println!(rt)
 }
 
 fn main(rt: HostRuntime) -> io::Result<()> {
-    let mut i: usize = 0;
-    while i < tries::COUNT {
-        tried(&rt, tries::entry(i))?;
-        i += 1;
+    for u in JUDGED {
+        tried(&rt, Asked::Judge, u)?;
+    }
+    for u in CLIMBED {
+        tried(&rt, Asked::Ladder, u)?;
     }
     Ok(())
 }

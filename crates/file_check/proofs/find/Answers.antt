@@ -1,23 +1,13 @@
--- The refusal beside a table of zeros, or the table of the entry that is sought.
-use mathlib.Core.Path.{sym, ap, ap₂, ◌∙◌}
-use Rattle.refusal.specs.declared.Refusal.{Refusal}
-use Rattle.table.specs.declared.Table.{Table}
-use Rattle.file_bodies.specs.Body.{table_at}
-use Rattle.file_check.specs.declared.Found.{Found}
-use Rattle.file_check.proofs.Steps.{found_none, found_table}
+-- 17, where the entry that has the number is a note.
+use Rattle.std.proofs.Common.{sym, ap, ◌∙◌}
+use Rattle.file_kinds.specs.Kinds.{kind_of, is_table}
+use Rattle.file_kinds.proofs.Tests.{table_said}
+use Rattle.file_entries.specs.declared.Entry.{Entry}
+use Rattle.file_check.proofs.Steps.{find_note}
 use Rattle.file_check.proofs.find.Goals as goal
-
-abbrev answer : Refusal → Table → Found
-answer r t = record { refusal = r; table = t }
-
-pub returns-then-refusal-ne0 : goal.returns-then-refusal-ne0
-returns-then-refusal-ne0 c =
-    let e = c.find_refusal-refusal.ensures in
-    ap₂ answer e c.no_table-table.ensures ∙ found_none _ _ (λ z. c.if-refusal-ne0.true (ap (λ (r : Refusal). r.no) e ∙ z))
 
 pub returns : goal.returns
 returns c =
-    let r = c.find_refusal-refusal.ensures in
-    let s = c.args.s.now in
-    ap₂ answer r (c.table_at-table.ensures ∙ ap (table_at s) c.seek_of.ensures)
-    ∙ found_table _ _ (sym (ap (λ (q : Refusal). q.no) r) ∙ c.if-refusal-ne0.false)
+    let k = c.kind_of.ensures ∙ ap (λ (e : Entry). kind_of e.kind) c.read.ensures in
+    find_note _ _ c.into.result c.in_ok-i.i c.in_ok-file_refusal.ensures (sym c.in_ok-i.ensures.ok_part ∙ c.seek_of.ensures)
+    (ap is_table (sym k) ∙ table_said _ c.eq.ensures c.if-eq.false) c.into.ensures

@@ -1,124 +1,109 @@
 -- The early refusals, or what the writing answers of the new file.
-use mathlib.Core.Path.{◌≡◌, sym, ap, ap₂, subst, ◌∙◌}
-use Prim.Native.Nat.{ℕ, ◌≤◌}
-use mathlib.Core.List.{List}
+use Rattle.std.proofs.Common.{◌≡◌, ℕ, ◌≤◌, length, take, replicate, unwrap_or, sym, ap, ap₂, ◌∙◌, subst, arith}
+use Rattle.std.proofs.lemmas.List.{length-take-le}
+use Rattle.std.proofs.lemmas.Result.{err_from_is_err_and}
 use native.Mathlib.Nat.{le_refl}
-use native.Mathlib.Omega.{arith}
-use lib.ListN.{length, take, replicate, length-take}
-use lib.Seq.{length-take-le}
-use Rattle.basics.specs.Over.{Holds}
-use Rattle.refusal.specs.declared.Refusal.{Refusal}
 use Rattle.table_row.specs.Limits.{most_rows}
 use Rattle.table.proofs.Accepted.{accepted}
 use Rattle.file_bytes.proofs.Overs.{length_over}
 use Rattle.file_entries.specs.Limits.{most_entries}
-use Rattle.file_entries.specs.Entries.{count_of, seek_of}
+use Rattle.file_entries.specs.Entries.{count_of, sought, seek_of}
 use Rattle.file_bodies.specs.Layout.{most_body}
 use Rattle.file_bodies.specs.Body.{table_bytes}
-use Rattle.file_check.proofs.Fine.{FileFine, file_is_fine}
+use Rattle.file_check.proofs.Fine.{file_is_fine}
+use Rattle.file_contents.specs.File.{Entry as FileEntry}
 use Rattle.file_new.specs.New.{table_entry, new_entries}
-use Rattle.file_new.specs.Steps.{source_of, new_count, early_refusal}
-use Rattle.file_new.proofs.Entered.{entered_count}
+use Rattle.file_new.specs.Steps.{Sources, new_count}
+use Rattle.file_new.proofs.Entered.{entered_count, place_is}
 use Rattle.file_new.proofs.Steps.{Early, early_is_fine}
 use Rattle.file_put.proofs.Outcomes.{file_is, buffer_is, puts_none, puts_file}
-use Rattle.file_put.proofs.put.Goals.{After-row_place-len, After-size_of_half-n, After-sources-list, After-table_bytes-buffer, Else-refusal-ne0}
+use Rattle.file_put.proofs.put.Goals.{After-row_place, After-new_count, After-sources-list, In_ok-early_refusal}
 use Rattle.file_put.proofs.put.Goals as goal
 
-fine : (c : Else-refusal-ne0) → (early_refusal c.args.s.now c.args.number c.args.t).no ≡ 0
-fine c = sym (ap (λ (r : Refusal). r.no) c.early_refusal-refusal.ensures) ∙ c.if-refusal-ne0.false
+early : (c : In_ok-early_refusal) → Early c.args.s.now c.args.number c.args.t
+early c = early_is_fine _ _ _ c.in_ok-early_refusal.ensures
 
-early : (c : Else-refusal-ne0) → Early c.args.s.now c.args.number c.args.t
-early c = early_is_fine _ _ _ (fine c)
-
-file_fine : (c : Else-refusal-ne0) → FileFine c.args.s.now
-file_fine c = file_is_fine _ (early c).file
-
-few : (c : Else-refusal-ne0) → c.args.t.count ≤ most_rows
+few : (c : In_ok-early_refusal) → c.args.t.count ≤ most_rows
 few c = (accepted _ (early c).table).count_high
 
-buffer_long : (c : After-table_bytes-buffer) → length c.table_bytes-buffer.result ≡ most_body
-buffer_long c = ap length c.table_bytes-buffer.ensures ∙ length_over (replicate most_body 0) 0 (table_bytes c.args.t)
+-- the body of the new table is in the buffer
+fits : (c : After-row_place) → c.row_place.result ≤ length c.table_bytes-bytes.result
+fits c =
+    let f = few (goal.at.slice_bounds-bytes-end c).In_ok-early_refusal in
+    let e = c.row_place.ensures.same in
+    let l = ap length c.table_bytes-bytes.ensures ∙ length_over (replicate most_body 0) 0 (table_bytes c.args.t) in
+    omega arith
 
--- the body of the new table
-body_is : (c : After-row_place-len) → c.args.t.count ≤ most_rows → take c.row_place-len.result c.table_bytes-buffer.result ≡ table_bytes c.args.t
-body_is c few =
-    ap₂ take c.row_place-len.ensures.same c.table_bytes-buffer.ensures
-    ∙ buffer_is (replicate most_body 0) c.args.t (omega arith) few (le_refl most_body)
-
--- the sources of the new file
-held : (c : After-sources-list) → Holds (source_of (seek_of c.args.s.now c.args.number)) most_entries c.sources-list.result
-held c = subst (λ (i : ℕ). Holds (source_of i) most_entries c.sources-list.result) c.seek_of-i.ensures c.sources-list.ensures
+body_is : (c : After-row_place) → take c.row_place.result c.table_bytes-bytes.result ≡ table_bytes c.args.t
+body_is c =
+    ap₂ take c.row_place.ensures.same c.table_bytes-bytes.ensures
+    ∙ buffer_is (replicate most_body 0) c.args.t (omega arith) (few (goal.at.slice_bounds-bytes-end c).In_ok-early_refusal) (le_refl most_body)
 
 -- the number of entries of the new file
-abbrev many : List ℕ → ℕ → ℕ
-many s number = new_count (count_of s) (seek_of s number)
+many : In_ok-early_refusal → ℕ
+many c = let s = c.args.s.now in new_count (count_of s) (sought (seek_of s c.args.number) (count_of s))
 
-many_few : (c : Else-refusal-ne0) → many c.args.s.now c.args.number ≤ most_entries
-unfolding new_entries
+many_few : (c : In_ok-early_refusal) → many c ≤ most_entries
+unfolding many new_entries
 many_few c =
     let e = (early c).few in
     omega (arith, entered_count c.args.s.now (table_entry c.args.number c.args.t))
 
-many_is : (c : After-size_of_half-n) → c.size_of_half-n.result ≡ many c.args.s.now c.args.number
-many_is c =
-    c.size_of_half-n.ensures.same
-    ∙ c.new_count.ensures
-    ∙ ap₂ new_count c.count.ensures c.seek_of-i.ensures
+many_is : (c : After-new_count) → let s = c.args.s.now in c.new_count.result ≡ new_count (count_of s) (sought (seek_of s c.args.number) (count_of s))
+many_is c = c.new_count.ensures ∙ ap₂ new_count c.count-count.ensures c.seek_of-place.ensures
 
-pub table_bytes-buffer-requires : goal.table_bytes-buffer-requires
-table_bytes-buffer-requires c = (early c).table
+-- and where each comes from
+held : (c : After-sources-list) → Sources (seek_of c.args.s.now c.args.number) c.sources-list.result
+held c =
+    let e = c.unwrap_or.ensures ∙ ap₂ unwrap_or c.seek_of-place.ensures c.count-count.ensures ∙ place_is c.args.s.now c.args.number in
+    subst (λ (i : ℕ). Sources i c.sources-list.result) e c.sources-list.ensures
 
-pub returns-then-refusal-ne0 : goal.returns-then-refusal-ne0
-returns-then-refusal-ne0 c = puts_none _ _ _ _ _ c.early_refusal-refusal.ensures c.if-refusal-ne0.true
+pub returns-in_err-early_refusal : goal.returns-in_err-early_refusal
+returns-in_err-early_refusal c =
+    let p = err_from_is_err_and c.from_residual.result c.from_residual.ensures.1 in
+    rw (p.1, p.2) (puts_none _ _ _ _ _ c.in_err-early_refusal.ensures)
 
-pub slice_bounds-buffer-end : goal.slice_bounds-buffer-end
-slice_bounds-buffer-end c =
-    let at = goal.at.slice_bounds-buffer-end c in
-    let f = few at.Else-refusal-ne0 in
-    let e = c.row_place-len.ensures.same in
-    omega (arith, buffer_long at.After-table_bytes-buffer)
+pub table_bytes-bytes-requires : goal.table_bytes-bytes-requires
+table_bytes-bytes-requires c = (early c).table
 
-pub slice_bounds-b-end : goal.slice_bounds-b-end
-slice_bounds-b-end c =
-    let at = goal.at.slice_bounds-b-end c in
-    let f = few at.Else-refusal-ne0 in
-    let e = c.row_place-len.ensures.same in
-    sym (length-take-le _ c.table_bytes-buffer.result (omega (arith, buffer_long at.After-table_bytes-buffer)))
+pub slice_bounds-bytes-end : goal.slice_bounds-bytes-end
+slice_bounds-bytes-end c = fits c
 
-pub new_count-requires : goal.new_count-requires
-new_count-requires c =
-    let f = (file_fine (goal.at.new_count-requires c).Else-refusal-ne0).contents.head in
-    omega (arith, c.count.ensures)
+pub slice_bounds-body-end : goal.slice_bounds-body-end
+slice_bounds-body-end c = sym (length-take-le _ c.table_bytes-bytes.result (fits (goal.at.slice_bounds-body-end c).After-row_place))
 
 pub slice_bounds-list-end : goal.slice_bounds-list-end
+unfolding many
 slice_bounds-list-end c =
-    let at = goal.at.slice_bounds-list-end c in
-    let n = many_is at.After-size_of_half-n in
-    let m = many_few at.Else-refusal-ne0 in
-    omega (arith, (held at.After-sources-list).room)
+    let n = many_is c in
+    let m = many_few (goal.at.slice_bounds-list-end c).In_ok-early_refusal in
+    omega arith
 
-pub slice_bounds-write-end : goal.slice_bounds-write-end
-slice_bounds-write-end c =
-    let at = goal.at.slice_bounds-write-end c in
-    let n = many_is at.After-size_of_half-n in
-    let m = many_few at.Else-refusal-ne0 in
-    sym (length-take-le _ c.sources-list.result (omega (arith, (held at.After-sources-list).room)))
+pub slice_bounds-sources-end : goal.slice_bounds-sources-end
+unfolding many
+slice_bounds-sources-end c =
+    let at = goal.at.slice_bounds-sources-end c in
+    let n = many_is at.After-new_count in
+    let m = many_few at.In_ok-early_refusal in
+    sym (length-take-le _ c.sources-list.result (omega arith))
 
-pub write-requires : goal.write-requires
-write-requires c =
-    let at = goal.at.write-requires c in
-    let e = at.Else-refusal-ne0 in
-    let f = (file_fine e).contents.head in
-    let b = few e in
-    let n = many_is at.After-size_of_half-n in
-    let m = many_few e in
-    let l = c.row_place-len.ensures.same in
-    (simp length-take (omega arith), f.most, simp length-take (omega arith))
+pub write-requires-clause-old_short : goal.write-requires-clause-old_short
+write-requires-clause-old_short c =
+    rw c.new.ensures.old (file_is_fine _ (early (goal.at.write-requires-clause-old_short c).In_ok-early_refusal).file).contents.head.most
+
+pub write-requires-clause-new_short : goal.write-requires-clause-new_short
+write-requires-clause-new_short c =
+    let row = (goal.at.write-requires-clause-new_short c).After-row_place in
+    let e = ap (λ (e : FileEntry). length e.body) c.new.ensures.new in
+    let n = length-take-le c.row_place.result c.table_bytes-bytes.result (fits row) in
+    let f = few (goal.at.write-requires-clause-new_short c).In_ok-early_refusal in
+    let r = c.row_place.ensures.same in
+    omega arith
 
 pub returns : goal.returns
 returns c =
     let at = goal.at.returns c in
-    let e = at.Else-refusal-ne0 in
     let a = c.args in
-    let is = file_is a.s.now a.number a.t _ _ _ (body_is at.After-row_place-len (few e)) (many_is at.After-size_of_half-n) (held at.After-sources-list) (early e).few in
-    puts_file _ _ _ _ _ _ (fine e) (rw is at c.write.ensures)
+    let p = c.new.ensures in
+    let is = file_is a.s.now a.number a.t c.new.result _ _ _ p.old p.new p.sources (body_is at.After-row_place) (many_is at.After-new_count) (held at.After-sources-list) (early at.In_ok-early_refusal).few in
+    puts_file _ _ _ _ _ _ c.in_ok-early_refusal.ensures (rw is at c.write.ensures)

@@ -3,10 +3,7 @@ use Rattle.basics.proofs.Overs.{holds_of}
 use Rattle.judge_deepen.proofs.Depth.{reached_first}
 use Rattle.judge_climb.proofs.first.Goals as goal
 
-pub first_map-requires : goal.first_map-requires
-first_map-requires c = (c.requires.accepted, c.requires.map_room)
-
 pub returns : goal.returns
 returns c =
     let map = c.first_map.ensures in
-    record { reached = reached_first _ _ map c.clear.ensures; line = c.measure.ensures _ (holds_of map c.requires.map_room) }
+    record { reached = reached_first _ _ map c.clear.ensures; line = c.measure.ensures _ (holds_of map c.requires.0) }

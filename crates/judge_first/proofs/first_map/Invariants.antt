@@ -1,12 +1,9 @@
 -- The slots so far hold the word of their windows.
-use Prim.Native.Nat.{◌-◌, ◌≤◌}
-use Rattle.sets.specs.Word.{word}
+use Rattle.sets.specs.Word.{words}
 use Rattle.basics.specs.Over.{Over}
-use Rattle.judge_first.specs.Columns.{in_windows}
+use Rattle.model.specs.Windows.{window}
+use Rattle.table.specs.Meaning.{model_of}
 use Rattle.judge_first.proofs.first_map.Given as goal
 
 abbrev pub invariant-loop-s : goal.invariant-loop-s
-invariant-loop-s l = (l.s ≤ l.h) × Over (λ k. word l.n (in_windows l.periods l.deadlines k)) 0 l.s l.initial.map l.map
-
-abbrev pub decreases-loop-s : goal.decreases-loop-s
-decreases-loop-s l = l.h - l.s
+invariant-loop-s l = let M = model_of l.a.table in Over (words M (window M)) 0 l.s l.initial.map l.map

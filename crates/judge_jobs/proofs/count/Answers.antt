@@ -1,28 +1,25 @@
--- Each turn counts one slot more.
-use mathlib.Core.Path.{◌≡◌, sym, ap₂, ◌∙◌}
-use Prim.Native.Nat.{◌+◌, ◌≤◌}
+-- The sum of the row's bits is the count of the slots that have it, and no more than they are.
 use native.Mathlib.Omega.{arith}
+use borrow.Author.Rules.{rules}
+use mathlib.Core.Path.{◌∙◌}
+use lib.ListN.{length}
+use mir.Val.{bool_byte}
+use Rattle.std.proofs.Common.{tests}
+use Rattle.std.proofs.lemmas.Iterator.{YieldsList-from_slice, YieldsList-from_map}
+use Rattle.std.proofs.lemmas.Iterator.Consumers.{sum_by_from_yields_List, fits_by_from_yields_list}
+use Rattle.sets.specs.Word.{member}
 use Rattle.judge_jobs.specs.First.{in_slot}
-use Rattle.judge_jobs.proofs.Tally.{bit_small, tally_zero, tally_more}
+use Rattle.judge_jobs.proofs.Tally.{sum_tally, tally_le}
 use Rattle.judge_jobs.proofs.count.Goals as goal
 
-pub loop-o-init : goal.loop-o-init
-loop-o-init c = (omega arith, omega arith, sym (tally_zero _ _))
-
-pub overflow_add-total : goal.overflow_add-total
-overflow_add-total c =
-    let a = c.args in
-    omega (arith, bit_small (in_slot a.i a.pins.now (a.from + c.loop-o.o)) c.bit_of-total.ensures)
-
-pub loop-o-preserved : goal.loop-o-preserved
-loop-o-preserved c =
-    let st = c.before.before.before in
-    let a = c.args in
-    let p = in_slot a.i a.pins.now in
-    let l : c.bit_of-total.result ≤ 1 = bit_small (p (a.from + st.loop-o.o)) c.bit_of-total.ensures in
-    (omega arith, omega arith, ap₂ ◌+◌ st.loop-o.invariant.2 c.bit_of-total.ensures ∙ sym (tally_more p a.from st.loop-o.o))
+pub sum-requires-clause-fits : goal.sum-requires-clause-fits
+sum-requires-clause-fits c =
+    let l = c.args.pins.now in
+    fits_by_from_yields_list _ _ c.map.result _ (YieldsList-from_map _ (λ w. bool_byte (member c.args.i w)) (YieldsList-from_slice l cc) c.map.ensures.closure (λ x r q k. search (rules, tests)))
+    (omega (arith, sum_tally c.args.i l, tally_le (in_slot c.args.i l) 0 (length l)))
 
 pub returns : goal.returns
 returns c =
-    let e : c.loop-o.o ≡ c.args.len = omega arith in
-    rw e at c.loop-o.invariant.2
+    let l = c.args.pins.now in
+    sum_by_from_yields_List _ _ c.map.result _ c.sum.ensures.ran (YieldsList-from_map _ (λ w. bool_byte (member c.args.i w)) (YieldsList-from_slice l cc) c.map.ensures.closure (λ x r q k. search (rules, tests)))
+    ∙ sum_tally c.args.i l

@@ -1,11 +1,8 @@
--- How many of the slots so far have the row; no more than c.
+-- How many of the c are still to come.
 use mathlib.Core.Path.{◌≡◌}
-use Prim.Native.Nat.{◌-◌, ◌≤◌}
+use Prim.Native.Nat.{◌+◌}
 use Rattle.judge_jobs.specs.First.{in_slot, tally}
 use Rattle.judge_jobs.proofs.reach.Given as goal
 
-abbrev pub invariant-loop-got : goal.invariant-loop-got
-invariant-loop-got l = (l.o ≤ l.len) × (l.got ≡ tally (in_slot l.i l.pins) l.from l.o) × (l.got ≤ l.c)
-
-abbrev pub decreases-loop-got : goal.decreases-loop-got
-decreases-loop-got l = l.len - l.o
+abbrev pub invariant-loop-s : goal.invariant-loop-s
+invariant-loop-s l = l.left + tally (in_slot l.i l.pins) 0 l.s ≡ l.c

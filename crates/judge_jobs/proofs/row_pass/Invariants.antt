@@ -10,8 +10,11 @@ abbrev pub read : ℕ → ℕ → ℕ → Row
 read period execution deadline = record { period = period; execution = execution; deadline = deadline }
 
 abbrev pub invariant-loop-from : goal.invariant-loop-from
-invariant-loop-from l =
-    (l.from ≤ l.h) × (l.from % l.period ≡ 0) × RowDone l.i (read l.period l.execution l.deadline) l.from l.initial.pins l.pins l.initial.map l.map l.changed
+invariant-loop-from l = record {
+  inside : l.from ≤ l.h;
+  release : l.from % l.period ≡ 0;
+  done : RowDone l.i (read l.period l.execution l.deadline) l.from l.initial.pins l.pins l.initial.map l.map l.changed;
+}
 
 abbrev pub decreases-loop-from : goal.decreases-loop-from
 decreases-loop-from l = l.h - l.from

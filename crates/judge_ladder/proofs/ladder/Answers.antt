@@ -5,13 +5,13 @@ use Rattle.judge_ladder.proofs.ladder.Goals as goal
 
 pub climb-requires : goal.climb-requires
 climb-requires c =
-    let a = admitted c.args.t _ _ _ c.in-Frame.ensures in
-    rw c.size_of_word.ensures.same a
+    let a = admitted c.args.t _ _ _ c.in-Ok.ensures.told in
+    (a.map_room, a.pins_room)
 
-pub returns-in-Refused : goal.returns-in-Refused
-returns-in-Refused c =
-    laddered_refused c.args.t _ _ _ _ c.in-Refused.ensures c.refused.ensures.0 c.refused.ensures.1
+pub returns-in-Err : goal.returns-in-Err
+returns-in-Err c = rw c.zeros.ensures (laddered_refused c.args.t _ _ _ c.in-Err.ensures.told)
 
-pub returns-in-Frame : goal.returns-in-Frame
-returns-in-Frame c =
-    laddered_given c.args.t _ _ _ _ _ _ _ _ _ c.in-Frame.ensures c.size_of_word.ensures.same c.climb.ensures c.lines.ensures c.accepted.ensures.0 c.accepted.ensures.1
+pub returns-in-Ok : goal.returns-in-Ok
+returns-in-Ok c =
+    rw c.lines.ensures
+    (laddered_given c.args.t _ _ _ _ _ _ c.in-Ok.ensures.told (rw c.in-Ok.ensures.same at c.climb.ensures))

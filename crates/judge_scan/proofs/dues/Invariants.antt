@@ -1,10 +1,6 @@
--- What falls due of the rows below i is added.
-use Prim.Native.Nat.{◌-◌, ◌≤◌}
+-- What falls due of the rows so far is added.
 use Rattle.judge_scan.specs.Dues.{falling_in, Falls}
 use Rattle.judge_scan.proofs.dues.Given as goal
 
-abbrev pub invariant-loop-i : goal.invariant-loop-i
-invariant-loop-i l = (l.i ≤ l.n) × Falls (falling_in l.t l.i) l.h l.initial.list l.list
-
-abbrev pub decreases-loop-i : goal.decreases-loop-i
-decreases-loop-i l = l.n - l.i
+abbrev pub invariant-loop-row : goal.invariant-loop-row
+invariant-loop-row l = Falls (falling_in l.fn.a.table l.row-index) l.fn.a.frame l.initial.list l.list

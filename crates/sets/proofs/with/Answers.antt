@@ -1,24 +1,20 @@
--- A row past the width changes nothing; else the digit is set.
-use mathlib.Core.Path.{sym}
-use Prim.Native.Nat.{◌<◌}
-use native.Mathlib.Omega.{arith}
-use lib.Bits.{and_le_l}
+-- A row below the width is in the set of all rows; one past it changes nothing.
+use mathlib.Core.Path.{◌∙◌}
+use mathlib.Core.Logic.{⊎_elim}
+use Prim.Native.Nat.{ℕ, ◌-◌, ◌^◌, ◌≤◌, ◌<◌}
+use lib.Dec.{lit<}
 use borrow.Author.Tests.{lt-ltb, le-ltb}
+use Rattle.std.proofs.lemmas.Bool.{cases_lt}
 use Rattle.sets.specs.Word.{width, adding}
-use Rattle.sets.proofs.Words.{put_lt}
-use Rattle.sets.proofs.Digits.{set_digit}
+use Rattle.sets.proofs.Words.{put_high, member_high}
+use Rattle.sets.proofs.Digits.{member_all}
 use Rattle.sets.proofs.with.Goals as goal
-
-pub returns-then-i-ge-WIDTH : goal.returns-then-i-ge-WIDTH
-unfolding adding
-returns-then-i-ge-WIDTH c = sym (rw (le-ltb c.args.i width (omega arith)))
-
-pub overflow_sub-result : goal.overflow_sub-result
-overflow_sub-result c = and_le_l _ _
-
-pub overflow_add-result : goal.overflow_add-result
-overflow_add-result c = let h : c.args.i < width = omega arith in record { fits = rw (set_digit width c.args.i h c.args.w) (put_lt width _ _ _ h c.ranges.w.fits) }
 
 pub returns : goal.returns
 unfolding adding
-returns c = let h : c.args.i < width = omega arith in rw (lt-ltb c.args.i width h) (set_digit width c.args.i h c.args.w)
+returns c =
+    let all : ℕ = 2 ^ width - 1 in
+    ⊎_elim
+    (λ (l : c.args.i < width). rw (lt-ltb c.args.i width l) (rw (member_all width c.args.i l) at c.taking.ensures))
+    (λ (h : width ≤ c.args.i). rw (le-ltb c.args.i width h) (c.taking.ensures ∙ rw (member_high width c.args.i all h (lit< tt)) (put_high width c.args.i c.args.w h c.ranges.w.fits)))
+    (cases_lt c.args.i width)

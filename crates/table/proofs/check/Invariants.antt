@@ -1,11 +1,8 @@
--- The rows below i are seen.
-use Prim.Native.Nat.{◌-◌, ◌≤◌}
+-- The rows so far are seen.
 use Rattle.table.specs.Rows.{row_at, beside_of}
+use Rattle.table.specs.Seen.{seen}
 use Rattle.table.proofs.SoFar.{SoFar}
 use Rattle.table.proofs.check.Given as goal
 
-abbrev pub invariant-loop-i : goal.invariant-loop-i
-invariant-loop-i l = (l.i ≤ l.n) × SoFar (beside_of l.t) (row_at l.t) l.i l.s
-
-abbrev pub decreases-loop-i : goal.decreases-loop-i
-decreases-loop-i l = l.n - l.i
+abbrev pub invariant-loop-row : goal.invariant-loop-row
+invariant-loop-row l = SoFar (beside_of l.fn.t) (row_at l.fn.t) l.row-index (seen l.s)

@@ -1,0 +1,2 @@
+-- What a test of a kind in the code tells.
+pub mod Tests

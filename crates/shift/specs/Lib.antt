@@ -1,2 +1,0 @@
--- What was read of the input.
-pub mod Input
