@@ -3,8 +3,9 @@
 
 ghost use Rattle.std.specs.Prelude.{◌≡◌, ◌<◌, ◌^◌};
 ghost use Rattle.file_entries.specs.Limits.{after_entries};
-ghost use Rattle.file_entries.specs.Entries.{count_of, form_of, entry_read, body_at, sought, seek_in, seek_of, kind_under};
+ghost use Rattle.file_entries.specs.Entries.{count_of, form_of, kind_at, number_at, start_at, length_at, sum_at, entry_read, body_at, sought, seek_in, seek_of, kind_under};
 
+use basics::ranges;
 use file_bytes::le16;
 use file_kinds::Kind;
 
@@ -44,18 +45,54 @@ pub fn after_entries(n: u16) -> usize
     HEAD + ENTRY * n as usize
 }
 
+// The parts of entry i, each read alone: most callers want one or two of the five.
+#[tactic(auto, unfolding(crate::specs::Entries::kind_at))]
+pub fn kind_at(s: &[u8], i: u16) -> u16
+    ensures { result ≡ kind_at s.now i }
+{
+    le16(s, after_entries(i))
+}
+
+#[tactic(auto, unfolding(crate::specs::Entries::number_at))]
+pub fn number_at(s: &[u8], i: u16) -> u16
+    ensures { result ≡ number_at s.now i }
+{
+    le16(s, after_entries(i) + 2)
+}
+
+#[tactic(auto, unfolding(crate::specs::Entries::start_at))]
+pub fn start_at(s: &[u8], i: u16) -> u16
+    ensures { result ≡ start_at s.now i }
+{
+    le16(s, after_entries(i) + 4)
+}
+
+#[tactic(auto, unfolding(crate::specs::Entries::length_at))]
+pub fn length_at(s: &[u8], i: u16) -> u16
+    ensures { result ≡ length_at s.now i }
+{
+    le16(s, after_entries(i) + 6)
+}
+
+#[tactic(auto, unfolding(crate::specs::Entries::sum_at, file_bytes::specs::Number::at32))]
+pub fn sum_at(s: &[u8], i: u16) -> u32
+    ensures { result ≡ sum_at s.now i }
+{
+    let at = after_entries(i) + 8;
+    le16(s, at) as u32 + 65536 * le16(s, at + 2) as u32
+}
+
 impl Entry {
     // Entry i as it stands in the contents.
     pub fn read(s: &[u8], i: u16) -> Entry
         ensures { result ≡ entry_read s.now i }
     {
-        let at = after_entries(i);
         Entry {
-            kind: le16(s, at),
-            number: le16(s, at + 2),
-            start: le16(s, at + 4),
-            length: le16(s, at + 6),
-            sum: le16(s, at + 8) as u32 + 65536 * le16(s, at + 10) as u32,
+            kind: kind_at(s, i),
+            number: number_at(s, i),
+            start: start_at(s, i),
+            length: length_at(s, i),
+            sum: sum_at(s, i),
         }
     }
 }
@@ -65,17 +102,16 @@ impl Entry {
 pub fn body(s: &[u8], i: u16) -> &[u8]
     ensures { result.now ≡ body_at s.now i }
 {
-    let e = Entry::read(s, i);
-    let start = e.start as usize;
-    let end = start + e.length as usize;
-    &s[start.min(s.len())..end.min(s.len())]
+    let start = start_at(s, i) as usize;
+    let end = start + length_at(s, i) as usize;
+    &s[ranges::lesser(start, s.len())..ranges::lesser(end, s.len())]
 }
 
 // The first of n entries that has a number.
 pub fn seek(s: &[u8], number: u16, n: u16) -> Option<u16>
     ensures { result ≡ sought (seek_in s.now number n) n }
 {
-    (0..n).find(|i| Entry::read(s, *i).number == number)
+    (0..n).find(|i| number_at(s, *i) == number)
 }
 
 // The entry of the file that has a number.
@@ -91,5 +127,5 @@ pub fn kind_under(s: &[u8], number: u16) -> Option<Kind>
     ensures { result ≡ kind_under s.now number }
 {
     let i = seek_of(s, number)?;
-    file_kinds::kind_of(Entry::read(s, i).kind)
+    file_kinds::kind_of(kind_at(s, i))
 }
