@@ -8,12 +8,11 @@ ghost use Rattle.file_entries.specs.Entries.{place_of};
 ghost use Rattle.file_contents.specs.Contents.{head_refusal, entry_refusal, entries_refusal, contents_refusal};
 
 use basics::ranges;
-use file_entries::Entry;
 use file_entries::limits::{BYTES, ENTRIES, FORM, HEAD};
 use refusal::{Refusal, Rule};
 
 // 9, 10 or 11 of the file's length and its first four bytes.
-#[tactic(auto, unfolding(crate::specs::Contents::head_refusal, basics::specs::When::unless, basics::specs::Range::inside))]
+#[tactic(auto, using(basics::proofs::Range::range_passed, basics::proofs::Range::range_failed), unfolding(crate::specs::Contents::head_refusal, basics::specs::When::unless))]
 fn head_refusal(s: &[u8]) -> Result<(), Rule>
     ensures { number_in result ≡ head_refusal s.now }
 {
@@ -41,17 +40,16 @@ fn entry_refusal(s: &[u8], i: u16, place: usize) -> Result<(), Rule>
     requires most { length s.now ≤ most_bytes }
     ensures { number_in result ≡ entry_refusal s.now i }
 {
-    let e = Entry::read(s, i);
-    if file_kinds::kind_of(e.kind).is_none() {
+    if file_kinds::kind_of(file_entries::kind_at(s, i)).is_none() {
         return Err(Rule::Kind);
     }
-    if e.start as usize != place {
+    if file_entries::start_at(s, i) as usize != place {
         return Err(Rule::Place);
     }
-    if s.len() < place + e.length as usize {
+    if s.len() < place + file_entries::length_at(s, i) as usize {
         return Err(Rule::Place);
     }
-    if file_entries::seek(s, e.number, i).is_some() {
+    if file_entries::seek(s, file_entries::number_at(s, i), i).is_some() {
         return Err(Rule::Twice);
     }
     Ok(())
@@ -68,7 +66,7 @@ fn entries_refusal(s: &[u8]) -> Result<(), Refusal>
         if let Err(rule) = entry_refusal(s, i, place) {
             return Err(Refusal::from(rule).in_entry(i as u8));
         }
-        place += Entry::read(s, i).length as usize;
+        place += file_entries::length_at(s, i) as usize;
     }
     if place != s.len() {
         return Err(Refusal::from(Rule::Place).in_entry((n - 1) as u8));

@@ -27,7 +27,7 @@ loop-i-preserved c =
     let l = c.loop-i in
     let s = c.args.s.now in
     let fine = entry_is_fine s l.i (sym c.in_default.ensures) in
-    let n : c.read.result.length ≡ length_at s l.i = ap (λ r. r.length) c.read.ensures in
+    let n : c.length_at.result ≡ length_at s l.i = c.length_at.ensures in
     let next = place_next s l.i in
     record { head = l.invariant.head; placed = omega arith; reached = omega arith; fine = below_more _ _ l.invariant.fine (sym c.in_default.ensures) }
 
