@@ -51,14 +51,11 @@ impl<'a> Parts<'a> {
     {
         match source {
             Source::New => self.new,
-            Source::Old(i) => {
-                let e = file_entries::Entry::read(self.old, i);
-                Entry {
-                    kind: e.kind,
-                    number: e.number,
-                    body: file_entries::body(self.old, i),
-                }
-            }
+            Source::Old(i) => Entry {
+                kind: file_entries::kind_at(self.old, i),
+                number: file_entries::number_at(self.old, i),
+                body: file_entries::body(self.old, i),
+            },
         }
     }
 
