@@ -1,7 +1,7 @@
 // The body of a table: read, refused and written.
 #![tactic(auto)]
 
-ghost use Rattle.std.specs.Prelude.{◌≡◌, ◌+◌, ◌≤◌, length, replicate};
+ghost use Rattle.std.specs.Prelude.{◌≡◌, ◌+◌, ◌≤◌, length, take, replicate};
 ghost use Rattle.refusal.specs.Told.{told_in};
 ghost use Rattle.table_row.specs.Limits.{most_rows};
 ghost use Rattle.table.specs.Rows.{room_by};
@@ -32,6 +32,7 @@ fn read_row(b: &[u8], i: u16) -> Row
         period: file_bytes::le16(b, at),
         execution: file_bytes::le16(b, at + FIELD),
         deadline: file_bytes::le16(b, at + 2 * FIELD),
+        ..table_row::no_row()
     }
 }
 
@@ -59,6 +60,7 @@ pub fn read_table(b: &[u8]) -> Table
         depth: file_bytes::byte_at(b, 1) as u16,
         count,
         rows: read_rows(b, count.min(ROOM)),
+        ..table::no_table()
     }
 }
 
@@ -93,13 +95,13 @@ fn put_row(out: &mut [u8], at: usize, r: Row)
     file_bytes::put16(out, at + 2 * FIELD, r.deadline);
 }
 
-// Writes rows at their places.
+// Writes a table's rows at their places.
 #[tactic(auto, using(file_bytes::proofs::Overs::over_none, crate::proofs::Writing::row_next), unfolding(crate::specs::Body::rows_bytes))]
-fn put_rows(out: &mut [u8], rows: &[Row])
-    requires { (length rows.now ≤ most_rows) × (length out.old ≡ most_body) }
-    ensures { out.new ≡ over out.old body_head (rows_bytes rows.now) }
+fn put_rows(out: &mut [u8], t: Table)
+    requires { (t.count ≤ most_rows) × (length out.old ≡ most_body) }
+    ensures { out.new ≡ over out.old body_head (rows_bytes (take t.count t.rows)) }
 {
-    for (i, row) in rows.iter().enumerate() {
+    for (i, row) in t.rows[..t.count as usize].iter().enumerate() {
         put_row(out, layout::row_place(i as u16), *row);
     }
 }
@@ -113,6 +115,6 @@ pub fn table_bytes(t: Table) -> [u8; BODY]
     let mut out = [0u8; BODY];
     let head = [t.processors as u8, t.depth as u8, t.count as u8, 0];
     file_bytes::put_bytes(&mut out, 0, &head);
-    put_rows(&mut out, &t.rows[..t.count as usize]);
+    put_rows(&mut out, t);
     out
 }
