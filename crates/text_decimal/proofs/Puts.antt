@@ -5,13 +5,21 @@ use Prim.Native.Nat.{ℕ, ◌+◌, ◌/◌, ◌%◌, ◌≤◌, ◌<◌}
 use native.Mathlib.Nat.{zero-add}
 use native.Mathlib.Omega.{arith}
 use lib.ListN.{length, take, set, length-append}
-use borrow.Author.Tests.{le-leb}
+use borrow.Author.Tests.{le-leb, lt-leb}
 use Rattle.file_bytes.specs.Over.{over}
 use Rattle.file_bytes.proofs.Overs.{over_none, set_over, over_byte, next_over, length_over, take_over}
 use Rattle.text_decimal.specs.declared.Output.{Output}
 use Rattle.text_decimal.specs.Decimal.{digit, decimal}
-use Rattle.text_decimal.specs.Put.{Put, PutIn, Written}
+use Rattle.text_decimal.specs.Put.{place_after, Put, PutIn, Written}
 use Rattle.text_decimal.proofs.Decimals.{decimal_small, decimal_more, decimal_one, decimal_longer, decimal_some, decimal_32}
+
+-- the place after a text, where there is room for it and where there is none
+module _ (room at n : ℕ) where
+  pub place_room : at + n ≤ room → at + n ≡ place_after room at n
+  place_room h = rw (le-leb _ _ h)
+
+  pub place_full : room < at + n → at ≡ place_after room at n
+  place_full h = rw (lt-leb _ _ h)
 
 -- what is told where there is room
 pub put_place : {o text o' : List ℕ} {at r : ℕ} → Put o at text o' r → at + length text ≤ length o → r ≡ at + length text
@@ -24,11 +32,12 @@ put_length {o} {text} {o'} {at} p = ap length p.output ∙ length_over o at text
 pub written_none : (o : Output) → Written o [] o
 written_none o = record {
   same = refl;
+  kept = refl;
   put = λ h. record { output = sym (over_none o.bytes.now o.at (omega arith)); place = rw (le-leb _ _ h) (omega arith) };
 }
 
 pub written : {o : Output} {text : List ℕ} {o' : Output} → PutIn o text o' → Written o text o'
-written p = record { same = p.same; put = λ _. p.put }
+written p = record { same = p.same; kept = put_length p.put; put = λ _. p.put }
 
 -- a text right after a text is one text
 put_then : {o xs o₁ ys o₂ : List ℕ} {at k r : ℕ} → at + length (xs ++ ys) ≤ length o → (at + length xs ≤ length o → Put o at xs o₁ k) → (k + length ys ≤ length o₁ → Put o₁ k ys o₂ r)
@@ -43,7 +52,7 @@ put_then {o} {xs} {o₁} {ys} {o₂} {at} {k} {r} h f g =
     record { output = next_over o o₁ o₂ at k xs ys p.output q.output e (omega arith); place = rw (le-leb _ _ h) (omega arith) }
 
 pub written_then : {o : Output} {xs : List ℕ} {o₁ : Output} {ys : List ℕ} {o₂ : Output} → Written o xs o₁ → Written o₁ ys o₂ → Written o (xs ++ ys) o₂
-written_then f g = record { same = g.same ∙ f.same; put = λ h. put_then h f.put g.put }
+written_then f g = record { same = g.same ∙ f.same; kept = g.kept ∙ f.kept; put = λ h. put_then h f.put g.put }
 
 -- a number below 10 is one byte, at the start
 pub spell_one : (o : List ℕ) (v : ℕ) → v < 10 → 0 < length o → set o 0 (digit v) ≡ over o 0 (decimal v)

@@ -17,7 +17,8 @@ pub record PutIn (o : Output) (text : List ℕ) (o' : Output) : Type 0 where
   pub same : o'.bytes.ghost_name ≡ o.bytes.ghost_name
   pub put : Put o.bytes.now o.at text o'.bytes.now o'.at
 
--- the same, where there is room
+-- the same, where there is room; the output keeps its length in any case
 pub record Written (o : Output) (text : List ℕ) (o' : Output) : Type 0 where
   pub same : o'.bytes.ghost_name ≡ o.bytes.ghost_name
+  pub kept : length o'.bytes.now ≡ length o.bytes.now
   pub put : o.at + length text ≤ length o.bytes.now → Put o.bytes.now o.at text o'.bytes.now o'.at
