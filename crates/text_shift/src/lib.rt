@@ -60,7 +60,10 @@ pub fn shift_text(
     let mut output = Output { bytes: out, at: 0 };
     match file_check::file_refusal(file) {
         Ok(()) => put_lines(file, file_entries::count(file), map, pins, &mut output),
-        Err(r) => text_lines::put_refused(&mut output, r),
+        Err(r) => {
+            text_lines::put_refused(&mut output, r);
+            return output.at;
+        }
     }
     output.at
 }
