@@ -63,7 +63,7 @@ pub fn check_file(s: &[u8]) -> Result<u8, Refusal>
 }
 
 // The table that has the number; or the file's refusal, then 17.
-#[tactic(auto, using(file_kinds::proofs::Tests::table_said, crate::proofs::Steps::find_file, crate::proofs::Steps::find_missing, crate::proofs::Steps::find_note, crate::proofs::Steps::find_table))]
+#[tactic(auto, using(file_kinds::proofs::Tests::table_said, crate::proofs::Steps::find_file_refused, crate::proofs::Steps::find_missing, crate::proofs::Steps::find_note, crate::proofs::Steps::find_table))]
 pub fn find(s: &[u8], number: u16) -> Result<Table, Refusal>
     ensures { found result ≡ find_of s.now number }
 {
