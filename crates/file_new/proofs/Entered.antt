@@ -1,5 +1,5 @@
 -- The entries that are written are the old file's with the new one put in by its number.
-use Rattle.std.proofs.Common.{◌≡◌, Bool, true, false, cond, Option, Some, None, unwrap_or, ◌⊎◌, inl, inr, ℕ, zero, suc, ◌+◌, ◌≤◌, ◌<◌, zero-le, add-one, zero-add, eqb, ltb, List, [], ◌∷◌, map, length, take, refl, sym, ap, ap₂, ◌∙◌, eq-eqb, le-ltb, arith}
+use Rattle.std.proofs.Common.{◌≡◌, Bool, true, false, cond, Option, unwrap_or, ◌⊎◌, inl, inr, ℕ, zero, suc, ◌+◌, ◌≤◌, ◌<◌, zero-le, add-one, zero-add, eqb, ltb, List, [], ◌∷◌, map, length, take, refl, sym, ap, ap₂, ◌∙◌, eq-eqb, le-ltb, arith}
 use Rattle.std.specs.List.{range_with_len}
 use Rattle.std.proofs.lemmas.List.{get_or-map, get_or-take, length-map, length-take-le}
 use Rattle.std.proofs.lemmas.List.FromFn.{fill_by_all, length-map-range_with_len}
@@ -77,16 +77,11 @@ module _ (s : List ℕ) (i : ℕ) (new : Entry) where
           later (inl q) n = absurd (n (rw q (hit (omega arith))))
           later (inr l) n = l
 
--- the place that a search came to counts as the search does
-pub count_is : (i n : ℕ) → new_count n (sought i n) ≡ cond (ltb i n) n (n + 1)
-unfolding sought
-count_is i n = go (ltb i n)
-  where
-    go : (t : Bool) → new_count n (cond t (Some i) None) ≡ cond t n (n + 1)
-    go true = refl
-    go false = refl
+-- the number of entries, by whether the new one is among the old ones
+pub count_is : (i n : ℕ) → new_count n i ≡ cond (ltb i n) n (n + 1)
+count_is i n = refl
 
--- and the place of the new entry is where the search came to
+-- the place of the new entry is where the search came to
 place_of_sought : (i n : ℕ) → i ≤ n → unwrap_or (sought i n) n ≡ i
 place_of_sought i n h = ⊎_elim (λ e. ap (λ (r : Option ℕ). unwrap_or r n) (sought_past i n (omega arith)) ∙ sym e) (λ l. ap (λ (r : Option ℕ). unwrap_or r n) (sought_here i n l)) (eq-or-lt_of_le h)
 
@@ -100,14 +95,14 @@ module _ (s : List ℕ) (new : Entry) where
   place = seek_of s new.number
 
   abbrev many : ℕ
-  many = new_count (count_of s) (sought place (count_of s))
+  many = new_count (count_of s) place
 
   put_run : map (new_at s place new) (range_with_len 0 many) ≡ put_entry (entries_of s) new
   unfolding entries_of seek_in
   put_run =
       let p : ℕ → Bool = λ j. eqb (number_at s j) new.number in
       let n = count_of s in
-      ap (from s place new 0) (count_is place n ∙ ap₂ (λ (k m : ℕ). cond (ltb place k) n m) (sym (zero-add n)) (add-one n))
+      ap (from s place new 0) (ap₂ (λ (k m : ℕ). cond (ltb place k) n m) (sym (zero-add n)) (add-one n))
       ∙ put_from s place new n 0 zero-le (omega (arith, least_le p n)) (λ j h e. eqb-false _ _ (least_below p n j h) e) (λ h. eqb-true _ _ (least_here p n (omega arith)))
 
   -- are those of the sources

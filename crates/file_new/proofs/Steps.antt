@@ -3,6 +3,7 @@ use mathlib.Core.Path.{◌≡◌, refl, ap, ◌∙◌}
 use mathlib.Core.Bool.{Bool, true, false, cond}
 use Prim.Native.Nat.{ℕ, ◌≤◌, ◌<◌}
 use mathlib.Core.List.{List}
+use Rattle.std.proofs.Common.{unwrap_or}
 use lib.ListN.{length}
 use lib.Dec.{leb, eqb}
 use borrow.Author.Tests.{ne_eqb, le-leb, lt-leb, eqb-false, leb-true}
@@ -10,7 +11,7 @@ use Rattle.refusal.specs.declared.Refusal.{Refusal}
 use Rattle.refusal.specs.Told.{told}
 use Rattle.refusal.proofs.Told.{number_some}
 use Rattle.file_entries.specs.Entries.{count_of, sought, seek_of}
-use Rattle.file_new.proofs.Entered.{entered_count}
+use Rattle.file_new.proofs.Entered.{entered_count, place_is}
 use Rattle.refusal.specs.Refusal.{Numbered, refuse, none}
 use Rattle.table.specs.declared.Table.{Table}
 use Rattle.basics.specs.When.{when, unless}
@@ -28,6 +29,10 @@ no r = r.no
 
 -- the file, the table, 17 and 11
 module _ (s : List ℕ) (number : ℕ) (t : Table) where
+  -- how many entries the code counts, by the place that the search came to
+  abbrev many : ℕ
+  many = new_count (count_of s) (unwrap_or (sought (seek_of s number) (count_of s)) (count_of s))
+
   abbrev place : Numbered
   place =
       when (note_has s number) (refuse 17)
@@ -54,13 +59,13 @@ module _ (s : List ℕ) (number : ℕ) (t : Table) where
       early_note h = rw h refl ∙ passed
 
       module _ (h : note_has s number ≡ false) where
-        pub early_full : most_entries < new_count (count_of s) (sought (seek_of s number) (count_of s)) → refuse 11 ≡ early_refusal s number t
+        pub early_full : most_entries < many → refuse 11 ≡ early_refusal s number t
         unfolding when unless new_entries
-        early_full l = rw (h, lt-leb _ _ (rw (← entered_count s (table_entry number t)) at l)) refl ∙ passed
+        early_full l = rw (h, lt-leb _ _ (rw (place_is s number, ← entered_count s (table_entry number t)) at l)) refl ∙ passed
 
-        pub early_fine : new_count (count_of s) (sought (seek_of s number) (count_of s)) ≤ most_entries → none ≡ early_refusal s number t
+        pub early_fine : many ≤ most_entries → none ≡ early_refusal s number t
         unfolding when unless new_entries
-        early_fine l = rw (h, le-leb _ _ (rw (← entered_count s (table_entry number t)) at l)) refl ∙ passed
+        early_fine l = rw (h, le-leb _ _ (rw (place_is s number, ← entered_count s (table_entry number t)) at l)) refl ∙ passed
 
   -- what it tells that none of these applies
   pub record Early : Type 0 where
@@ -79,6 +84,18 @@ module _ (s : List ℕ) (number : ℕ) (t : Table) where
 
 -- 9 and 19
 module _ (len room : ℕ) where
+  pub length_long : most_bytes < len → refuse 9 ≡ length_refusal len room
+  unfolding length_refusal unless
+  length_long h = rw (lt-leb _ _ h)
+
+  pub length_short : len ≤ most_bytes → room < len → refuse 19 ≡ length_refusal len room
+  unfolding length_refusal unless
+  length_short h g = rw (le-leb _ _ h, lt-leb _ _ g)
+
+  pub length_fits : len ≤ most_bytes → len ≤ room → none ≡ length_refusal len room
+  unfolding length_refusal unless
+  length_fits h g = rw (le-leb _ _ h, le-leb _ _ g)
+
   pub length_is_fine : (length_refusal len room).no ≡ 0 → (len ≤ most_bytes) × (len ≤ room)
   unfolding length_refusal
   length_is_fine h =
@@ -88,8 +105,8 @@ module _ (len room : ℕ) where
 
   -- what an answer tells of the length
   module _ (h : none ≡ length_refusal len room) where
-    pub length_short : len ≤ most_bytes
-    length_short = (length_is_fine (rw (← h))).0
+    pub length_most : len ≤ most_bytes
+    length_most = (length_is_fine (rw (← h))).0
 
     pub length_room : len ≤ room
     length_room = (length_is_fine (rw (← h))).1

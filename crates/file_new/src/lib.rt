@@ -12,14 +12,11 @@ use refusal::{Refusal, Rule};
 use std::array;
 use table::Table;
 
-// The number of entries with the new one in the place of an old one, or added after n.
-pub fn new_count(n: u16, place: Option<u16>) -> usize
-    ensures { result ≡ new_count n place }
+// The number of entries with entry i replaced, or added after n.
+pub fn new_count(n: u16, i: u16) -> usize
+    ensures { result ≡ new_count n i }
 {
-    match place {
-        Some(_) => n as usize,
-        None => n as usize + 1,
-    }
+    if i < n { n as usize } else { n as usize + 1 }
 }
 
 // The refusals that come before the new file's length: the file, the table, 17 and 11.
@@ -32,7 +29,9 @@ pub fn early_refusal(s: &[u8], number: u16, t: Table) -> Result<(), Refusal>
     if file_entries::kind_under(s, number) == Some(Kind::Note) {
         return Err(Rule::NoTable.into());
     }
-    let n = new_count(file_entries::count(s), file_entries::seek_of(s, number));
+    let count = file_entries::count(s);
+    let place = file_entries::seek_of(s, number).unwrap_or(count);
+    let n = new_count(count, place);
     if ENTRIES < n {
         return Err(Rule::Entries.into());
     }

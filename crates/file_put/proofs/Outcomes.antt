@@ -18,7 +18,7 @@ use Rattle.file_bytes.proofs.Overs.{over_start, take_over}
 use Rattle.table_row.specs.Limits.{most_rows}
 use Rattle.file_entries.specs.Limits.{most_entries}
 use Rattle.file_kinds.specs.Kinds.{table_kind}
-use Rattle.file_entries.specs.Entries.{count_of, sought, seek_of}
+use Rattle.file_entries.specs.Entries.{count_of, seek_of}
 use Rattle.file_contents.specs.File.{entry_by, encode}
 use Rattle.file_write.specs.declared.Source.{Source}
 use Rattle.file_write.specs.declared.Parts.{Parts}
@@ -57,7 +57,7 @@ module _ (file before : List ℕ) (len : ℕ) (l : len ≡ length file) where
 
 -- the new file, by what the code works out
 pub file_is : (s : List ℕ) (number : ℕ) (t : Table) (p : Parts) (b : List ℕ) (n : ℕ) (sources : List Source)
-    → p.old.now ≡ s → held p.new ≡ entry_by table_kind number b → p.sources.now ≡ take n sources → b ≡ table_bytes t → n ≡ new_count (count_of s) (sought (seek_of s number) (count_of s))
+    → p.old.now ≡ s → held p.new ≡ entry_by table_kind number b → p.sources.now ≡ take n sources → b ≡ table_bytes t → n ≡ new_count (count_of s) (seek_of s number)
     → Sources (seek_of s number) sources → length (new_entries s number t) ≤ most_entries
     → encode (entries_in p) ≡ new_file s number t
 unfolding new_file new_entries

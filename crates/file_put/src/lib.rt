@@ -13,7 +13,7 @@ use refusal::Refusal;
 use table::Table;
 
 // Writes the file of the parts, where there is room for it, and gives its length.
-#[tactic(auto, using(file_new::proofs::Steps::length_short, file_new::proofs::Steps::length_room))]
+#[tactic(auto, using(file_new::proofs::Steps::length_most, file_new::proofs::Steps::length_room))]
 fn write(out: &mut [u8], parts: Parts) -> Result<u32, Refusal>
     requires old_short { length parts.old.now ≤ most_bytes }
     requires new_short { length parts.new.body.now ≤ most_bytes }
@@ -38,8 +38,8 @@ pub fn put(s: &[u8], number: u16, t: Table, out: &mut [u8]) -> Result<u32, Refus
         body,
     };
     let count = file_entries::count(s);
-    let place = file_entries::seek_of(s, number);
-    let list = file_new::sources(place.unwrap_or(count));
+    let place = file_entries::seek_of(s, number).unwrap_or(count);
+    let list = file_new::sources(place);
     let sources = &list[..file_new::new_count(count, place)];
     write(out, Parts::new(s, new, sources))
 }

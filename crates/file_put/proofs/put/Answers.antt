@@ -1,5 +1,5 @@
 -- The early refusals, or what the writing answers of the new file.
-use Rattle.std.proofs.Common.{◌≡◌, ℕ, ◌≤◌, length, take, replicate, unwrap_or, sym, ap, ap₂, ◌∙◌, subst, arith}
+use Rattle.std.proofs.Common.{◌≡◌, Option, ℕ, ◌≤◌, List, length, take, replicate, unwrap_or, sym, ap, ap₂, ◌∙◌, subst, arith}
 use Rattle.std.proofs.lemmas.List.{length-take-le}
 use Rattle.std.proofs.lemmas.Result.{err_from_is_err_and}
 use native.Mathlib.Nat.{le_refl}
@@ -39,9 +39,13 @@ body_is c =
     ap₂ take c.row_place.ensures.same c.table_bytes-bytes.ensures
     ∙ buffer_is (replicate most_body 0) c.args.t (omega arith) (few (goal.at.slice_bounds-bytes-end c).In_ok-early_refusal) (le_refl most_body)
 
+-- the place of the new entry
+place_of : (s : List ℕ) (number : ℕ) {i n : ℕ} {o : Option ℕ} → i ≡ unwrap_or o n → o ≡ sought (seek_of s number) (count_of s) → n ≡ count_of s → i ≡ seek_of s number
+place_of s number e f g = e ∙ ap₂ unwrap_or f g ∙ place_is s number
+
 -- the number of entries of the new file
 many : In_ok-early_refusal → ℕ
-many c = let s = c.args.s.now in new_count (count_of s) (sought (seek_of s c.args.number) (count_of s))
+many c = let s = c.args.s.now in new_count (count_of s) (seek_of s c.args.number)
 
 many_few : (c : In_ok-early_refusal) → many c ≤ most_entries
 unfolding many new_entries
@@ -49,13 +53,15 @@ many_few c =
     let e = (early c).few in
     omega (arith, entered_count c.args.s.now (table_entry c.args.number c.args.t))
 
-many_is : (c : After-new_count) → let s = c.args.s.now in c.new_count.result ≡ new_count (count_of s) (sought (seek_of s c.args.number) (count_of s))
-many_is c = c.new_count.ensures ∙ ap₂ new_count c.count-count.ensures c.seek_of-place.ensures
+many_is : (c : After-new_count) → let s = c.args.s.now in c.new_count.result ≡ new_count (count_of s) (seek_of s c.args.number)
+many_is c =
+    let n = c.count-count.ensures in
+    c.new_count.ensures ∙ ap₂ new_count n (place_of c.args.s.now c.args.number c.unwrap_or-place.ensures c.seek_of.ensures n)
 
 -- and where each comes from
 held : (c : After-sources-list) → Sources (seek_of c.args.s.now c.args.number) c.sources-list.result
 held c =
-    let e = c.unwrap_or.ensures ∙ ap₂ unwrap_or c.seek_of-place.ensures c.count-count.ensures ∙ place_is c.args.s.now c.args.number in
+    let e = place_of c.args.s.now c.args.number c.unwrap_or-place.ensures c.seek_of.ensures c.count-count.ensures in
     subst (λ (i : ℕ). Sources i c.sources-list.result) e c.sources-list.ensures
 
 pub returns-in_err-early_refusal : goal.returns-in_err-early_refusal
