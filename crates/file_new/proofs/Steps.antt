@@ -1,5 +1,5 @@
 -- How put comes to each answer.
-use mathlib.Core.Path.{◌≡◌, refl, ap, ◌∙◌}
+use mathlib.Core.Path.{◌≡◌, refl, sym, ap, ◌∙◌}
 use mathlib.Core.Bool.{Bool, true, false, cond}
 use Prim.Native.Nat.{ℕ, ◌≤◌, ◌<◌}
 use mathlib.Core.List.{List}
@@ -29,43 +29,63 @@ no r = r.no
 
 -- the file, the table, 17 and 11
 module _ (s : List ℕ) (number : ℕ) (t : Table) where
-  -- how many entries the code counts, by the place that the search came to
-  abbrev many : ℕ
-  many = new_count (count_of s) (unwrap_or (sought (seek_of s number) (count_of s)) (count_of s))
-
   abbrev place : Numbered
   place =
       when (note_has s number) (refuse 17)
       (unless (leb (length (new_entries s number t)) most_entries) (refuse 11) none)
 
-  pub early_file : (r : Refusal) → told r ≡ file_refusal s → told r ≡ early_refusal s number t
+  pub early_file : ((file_refusal s).no ≡ 0 → ⊥) → file_refusal s ≡ early_refusal s number t
   unfolding early_refusal
-  early_file r e = e ∙ first_here (file_refusal s) (first (table_refusal t) place) (rw (← e) (number_some r.rule))
+  early_file b = first_here (file_refusal s) (first (table_refusal t) place) b
 
-  module _ (f : none ≡ file_refusal s) where
-    file_passed : first (table_refusal t) place ≡ early_refusal s number t
+  module _ (f : (file_refusal s).no ≡ 0) where
+    pub early_table : ((table_refusal t).no ≡ 0 → ⊥) → table_refusal t ≡ early_refusal s number t
     unfolding early_refusal
-    file_passed = first_next (file_refusal s) (first (table_refusal t) place) (rw (← f))
+    early_table b = first_here (table_refusal t) place b ∙ first_next (file_refusal s) (first (table_refusal t) place) f
 
-    pub early_table : (r : Refusal) → told r ≡ table_refusal t → told r ≡ early_refusal s number t
-    early_table r e = e ∙ first_here (table_refusal t) place (rw (← e) (number_some r.rule)) ∙ file_passed
-
-    module _ (g : none ≡ table_refusal t) where
+    module _ (g : (table_refusal t).no ≡ 0) where
       passed : place ≡ early_refusal s number t
-      passed = first_next (table_refusal t) place (rw (← g)) ∙ file_passed
+      unfolding early_refusal
+      passed = first_next (table_refusal t) place g ∙ first_next (file_refusal s) (first (table_refusal t) place) f
 
       pub early_note : note_has s number ≡ true → refuse 17 ≡ early_refusal s number t
       unfolding when
       early_note h = rw h refl ∙ passed
 
-      module _ (h : note_has s number ≡ false) where
-        pub early_full : most_entries < many → refuse 11 ≡ early_refusal s number t
-        unfolding when unless new_entries
-        early_full l = rw (h, lt-leb _ _ (rw (place_is s number, ← entered_count s (table_entry number t)) at l)) refl ∙ passed
+      pub early_full : note_has s number ≡ false → most_entries < length (new_entries s number t) → refuse 11 ≡ early_refusal s number t
+      unfolding when unless
+      early_full h l = rw (h, lt-leb _ _ l) refl ∙ passed
 
-        pub early_fine : many ≤ most_entries → none ≡ early_refusal s number t
-        unfolding when unless new_entries
-        early_fine l = rw (h, le-leb _ _ (rw (place_is s number, ← entered_count s (table_entry number t)) at l)) refl ∙ passed
+      pub early_fine : note_has s number ≡ false → length (new_entries s number t) ≤ most_entries → none ≡ early_refusal s number t
+      unfolding when unless
+      early_fine h l = rw (h, le-leb _ _ l) refl ∙ passed
+
+  -- how many entries the code counts, by the place that the search came to
+  abbrev many : ℕ
+  many = new_count (count_of s) (unwrap_or (sought (seek_of s number) (count_of s)) (count_of s))
+
+  many_is : many ≡ length (new_entries s number t)
+  unfolding new_entries
+  many_is = rw (place_is s number) (sym (entered_count s (table_entry number t)))
+
+  -- the same, by what the code has at hand
+  pub told_file : (r : Refusal) → told r ≡ file_refusal s → told r ≡ early_refusal s number t
+  told_file r e = e ∙ early_file (rw (← e) (number_some r.rule))
+
+  module _ (f : none ≡ file_refusal s) where
+    pub told_table : (r : Refusal) → told r ≡ table_refusal t → told r ≡ early_refusal s number t
+    told_table r e = e ∙ early_table (rw (← f)) (rw (← e) (number_some r.rule))
+
+    module _ (g : none ≡ table_refusal t) where
+      pub told_note : note_has s number ≡ true → refuse 17 ≡ early_refusal s number t
+      told_note h = early_note (rw (← f)) (rw (← g)) h
+
+      module _ (h : note_has s number ≡ false) where
+        pub told_full : most_entries < many → refuse 11 ≡ early_refusal s number t
+        told_full l = early_full (rw (← f)) (rw (← g)) h (rw many_is at l)
+
+        pub told_fine : many ≤ most_entries → none ≡ early_refusal s number t
+        told_fine l = early_fine (rw (← f)) (rw (← g)) h (rw many_is at l)
 
   -- what it tells that none of these applies
   pub record Early : Type 0 where
@@ -73,10 +93,10 @@ module _ (s : List ℕ) (number : ℕ) (t : Table) where
     pub table : (table_refusal t).no ≡ 0
     pub few : length (new_entries s number t) ≤ most_entries
 
-  pub early_is_fine : none ≡ early_refusal s number t → Early
+  pub early_is_fine : (early_refusal s number t).no ≡ 0 → Early
   unfolding early_refusal
   early_is_fine h =
-      let a = first_fine (file_refusal s) (first (table_refusal t) place) (rw (← h)) in
+      let a = first_fine (file_refusal s) (first (table_refusal t) place) h in
       let b = first_fine (table_refusal t) place a.1 in
       let d = when_passed no (note_has s number) (refuse 17) _ 0 b.1 (eqb-false 17 0 refl) in
       let e = unless_passed no (leb (length (new_entries s number t)) most_entries) (refuse 11) none 0 d.1 (eqb-false 11 0 refl) in

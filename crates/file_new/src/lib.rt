@@ -20,7 +20,7 @@ pub fn new_count(n: u16, i: u16) -> usize
 }
 
 // The refusals that come before the new file's length: the file, the table, 17 and 11.
-#[tactic(auto, using(file_kinds::proofs::Tests::note_said, crate::proofs::Steps::early_file, crate::proofs::Steps::early_table, crate::proofs::Steps::early_note, crate::proofs::Steps::early_full, crate::proofs::Steps::early_fine))]
+#[tactic(auto, using(file_kinds::proofs::Tests::note_said, crate::proofs::Steps::told_file, crate::proofs::Steps::told_table, crate::proofs::Steps::told_note, crate::proofs::Steps::told_full, crate::proofs::Steps::told_fine))]
 pub fn early_refusal(s: &[u8], number: u16, t: Table) -> Result<(), Refusal>
     ensures { told_in result ≡ early_refusal s.now number t }
 {

@@ -21,7 +21,7 @@ use Rattle.file_put.proofs.put.Goals.{After-row_place, After-new_count, After-so
 use Rattle.file_put.proofs.put.Goals as goal
 
 early : (c : In_ok-early_refusal) → Early c.args.s.now c.args.number c.args.t
-early c = early_is_fine _ _ _ c.in_ok-early_refusal.ensures
+early c = early_is_fine _ _ _ (rw (← c.in_ok-early_refusal.ensures))
 
 few : (c : In_ok-early_refusal) → c.args.t.count ≤ most_rows
 few c = (accepted _ (early c).table).count_high
