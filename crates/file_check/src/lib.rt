@@ -9,7 +9,6 @@ ghost use Rattle.file_entries.specs.Limits.{most_entries};
 ghost use Rattle.file_check.specs.Check.{part_refusal, file_refusal, numbers, check_file};
 ghost use Rattle.file_check.specs.Find.{found, find_of};
 
-use file_entries::Entry;
 use file_kinds::Kind;
 use refusal::{Refusal, Rule};
 use table::Table;
@@ -20,11 +19,10 @@ fn part_refusal(s: &[u8], i: u16) -> Result<(), Refusal>
     ensures { told_in result ≡ part_refusal s.now i }
 {
     let b = file_entries::body(s, i);
-    let entry = Entry::read(s, i);
-    if file_bytes::body_sum(b) != entry.sum {
+    if file_bytes::body_sum(b) != file_entries::sum_at(s, i) {
         return Err(Rule::Sum.into());
     }
-    if file_kinds::kind_of(entry.kind) == Some(Kind::Table) {
+    if file_kinds::kind_of(file_entries::kind_at(s, i)) == Some(Kind::Table) {
         return file_bodies::body_refusal(b);
     }
     Ok(())
@@ -69,7 +67,7 @@ pub fn find(s: &[u8], number: u16) -> Result<Table, Refusal>
 {
     file_refusal(s)?;
     let i = file_entries::seek_of(s, number).ok_or(Rule::NoTable)?;
-    if file_kinds::kind_of(Entry::read(s, i).kind) == Some(Kind::Table) {
+    if file_kinds::kind_of(file_entries::kind_at(s, i)) == Some(Kind::Table) {
         return Ok(file_bodies::table_at(s, i));
     }
     Err(Rule::NoTable.into())
