@@ -2,7 +2,7 @@
 ghost use Rattle.std.specs.Prelude.{◌≡◌, min};
 ghost use Rattle.basics.specs.Range.{inside};
 
-// The smaller of two: `min`, as a function because the must-fail edit `greater` holds it.
+// The smaller of two: how much of a list is meant, where it may be shorter than the places that are asked for.
 pub fn lesser(a: usize, b: usize) -> usize
     ensures { result ≡ min a b }
 {

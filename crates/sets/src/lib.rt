@@ -6,6 +6,8 @@ ghost use Rattle.std.specs.Int.Count.{ones};
 ghost use Rattle.basics.specs.Over.{Over};
 ghost use Rattle.sets.specs.Word.{width, member, put, adding, up_to};
 
+use basics::ranges;
+
 // How many rows a set can have.
 pub const WIDTH: usize = 32;
 
@@ -64,6 +66,6 @@ pub fn up_to(w: Set, m: u32) -> Set
 pub fn clear(list: &mut [Set], h: usize)
     ensures { Over (λ s. 0) 0 h list.old list.new }
 {
-    let end = h.min(list.len());
+    let end = ranges::lesser(h, list.len());
     list[..end].fill(0);
 }
