@@ -34,7 +34,7 @@ pub fn no_row() -> Row
 }
 
 // The rule that a row breaks by itself: T, then D, then C.
-#[tactic(auto, unfolding(crate::specs::Row::row_refusal, basics::specs::Range::inside))]
+#[tactic(auto, using(basics::proofs::Range::range_passed, basics::proofs::Range::range_failed, basics::proofs::Range::inside_true), unfolding(crate::specs::Row::row_refusal))]
 pub fn row_refusal(r: Row) -> Result<(), Rule>
     ensures { number_in result ≡ row_refusal r }
 {
