@@ -99,7 +99,7 @@ fn one_more(n: u8) -> u8
 }
 
 // One row more.
-#[tactic(auto, unfolding(crate::specs::Seen::step_of, basics::specs::Range::inside))]
+#[tactic(auto, using(basics::proofs::Range::range_passed, basics::proofs::Range::range_failed, basics::proofs::Range::inside_true), unfolding(crate::specs::Seen::step_of))]
 pub fn step(s: Seen, row: Row) -> Seen
     ensures { seen result ≡ step_of (seen s) row }
 {
@@ -121,7 +121,7 @@ pub fn step(s: Seen, row: Row) -> Seen
 }
 
 // The frame of the rows seen, or their first refusal: 1, 2, 3, then the rows' 4, 5, 6, then 7.
-#[tactic(auto, unfolding(crate::specs::Seen::finish_of, crate::specs::Seen::ranges, crate::specs::Seen::seen_each, basics::specs::Range::inside))]
+#[tactic(auto, using(basics::proofs::Range::range_passed, basics::proofs::Range::range_failed, basics::proofs::Range::inside_true), unfolding(crate::specs::Seen::finish_of, crate::specs::Seen::ranges, crate::specs::Seen::seen_each))]
 pub fn finish(s: Seen) -> Result<u32, Refusal>
     ensures { numbers result ≡ finish_of (seen s) }
 {
