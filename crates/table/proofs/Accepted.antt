@@ -14,8 +14,8 @@ use Rattle.basics.specs.Least.{least}
 use Rattle.table.specs.Frame.{frame_of, over_at}
 use Rattle.table.specs.Rows.{row_at, beside_of}
 use Rattle.table_row.specs.Row.{row_refusal, faulty}
-use Rattle.table.specs.Check.{Numbers, framed, refused, check_frame, check_each, check_rows, check_of}
-use Rattle.refusal.specs.Refusal.{none}
+use Rattle.table.specs.Check.{Numbers, framed, refused_by, refused, check_frame, check_each, check_rows, check_of}
+use Rattle.refusal.specs.Refusal.{Numbered, none}
 use Rattle.basics.specs.Range.{inside}
 use Rattle.table.specs.Meaning.{model_of, Accepted}
 use Rattle.basics.proofs.Least.{least_below, least_here}
@@ -130,6 +130,10 @@ accepted t e = ⊎_elim (λ f. f.0) (λ r. absurd (omega (arith, r.number))) (ou
 
 pub accepted_frame : (t : Table) (h : ℕ) → framed h ≡ check_of t → Accepted t h
 accepted_frame t h e = rw (ap (λ (a : Numbers). a.frame) e) (accepted t (sym (ap (λ (a : Numbers). a.refusal.no) e)))
+
+-- an answer with a refusal in it: the table has that refusal, and its number is not 0
+pub rejected : (t : Table) (r : Numbered) → refused_by r ≡ check_of t → Rejected (check_of t)
+rejected t r e = ⊎_elim (λ f. absurd (omega (arith, f.0.frame_low, ap (λ (a : Numbers). a.frame) e))) (λ q. q) (outcome t)
 
 -- the model of an accepted table is sound, and its frame is a frame: every period divides it
 module _ (t : Table) (h : ℕ) (a : Accepted t h) where
