@@ -9,6 +9,7 @@ ghost use Rattle.judge_scan.specs.Dues.{falling, Falls, falling_in, most_due};
 ghost use Rattle.judge_scan.specs.Totals.{Low, FailsAt, FailsNowhere};
 ghost use Rattle.judge_scan.specs.Lines.{Scanned};
 
+use basics::widths;
 use sets::Set;
 use table::framed::Framed;
 use table_row::Row;
@@ -74,7 +75,7 @@ fn least(dues: &[u32; SLOTS], usables: &[u32; SLOTS], h: usize) -> Option<Line>
         work += dues[k];
         if supply < work {
             return Some(Line {
-                t: (k + 1) as u32,
+                t: widths::word_of_size(k + 1),
                 work,
                 supply,
             });
