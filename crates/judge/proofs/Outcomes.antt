@@ -12,7 +12,7 @@ use Rattle.table.proofs.Accepted.{Rejected}
 use Rattle.judge_scan.specs.Lines.{line_of}
 use Rattle.judge_admit.specs.Admit.{admit_of}
 use Rattle.judge_admit.specs.Admit.{Admitted}
-use Rattle.judge.specs.Judge.{given, withheld, judge_of}
+use Rattle.judge.specs.Judge.{Numbers, given, withheld, judge_of}
 use Rattle.judge_admit.proofs.Admitted.{admit_outcome}
 
 module _ (t : Table) (a b : ℕ) where
@@ -41,3 +41,11 @@ module _ (t : Table) (a b : ℕ) where
         refuses = refl;
         answer = rw (ne_eqb (admit_of t a b).refusal.no 0 (λ (z : (admit_of t a b).refusal.no ≡ 0). omega (arith, r.number)));
       }
+
+  -- an answer that is no refusal has a frame
+  pub judge_frame : (judge_of t a b).refusal.no ≡ 0 → 0 < (judge_of t a b).frame
+  judge_frame e =
+      ⊎_elim
+      (λ g. rw g.1.answer g.1.admitted.accepted.frame_low)
+      (λ w. absurd (omega (arith, w.1.number, ap (λ (n : Numbers). n.refusal.no) w.1.answer)))
+      judge_outcome
