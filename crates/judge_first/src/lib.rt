@@ -1,13 +1,13 @@
 // The map of depth 1, slot by slot.
 #![tactic(auto)]
 
-ghost use Rattle.std.specs.Prelude.{◌≡◌, ◌%◌, ◌≤◌, ◌<◌, ltb, length, map};
+ghost use Rattle.std.specs.Prelude.{◌≡◌, ℕ, ◌%◌, ◌≤◌, ◌<◌, ltb, length, get_or, map};
 ghost use Rattle.basics.specs.Over.{Over};
-ghost use Rattle.model.specs.Windows.{window};
 ghost use Rattle.model.specs.Depths.{available};
-ghost use Rattle.sets.specs.Word.{words};
+ghost use Rattle.sets.specs.Word.{word, words};
+ghost use Rattle.table_row.specs.Limits.{most_rows};
 ghost use Rattle.table.specs.Meaning.{model_of};
-ghost use Rattle.judge_first.specs.Spans.{span_by};
+ghost use Rattle.judge_first.specs.Spans.{span_by, no_span, in_windows};
 
 use sets::Set;
 use table::framed::Framed;
@@ -44,14 +44,15 @@ fn in_window(c: Span, s: u32) -> bool
     s % c.period < c.deadline
 }
 
-// The rows in whose windows slot s is.
+// The rows in whose windows slot s is, of those whose spans these are. By index: with an iterator the map took longer.
 #[tactic(auto, using(crate::proofs::Next::word_zero))]
-fn first_word(a: &Framed, spans: &[Span; ROWS], s: u32) -> Set
-    requires { spans.now ≡ map span_by a.now.table.rows }
-    ensures { result ≡ words (model_of a.now.table) (window (model_of a.now.table)) s }
+fn first_word(spans: &[Span], s: u32) -> Set
+    requires few { length spans.now ≤ most_rows }
+    requires positive { (i : ℕ) → i < length spans.now → 0 < (get_or spans.now i no_span).period }
+    ensures { result ≡ word (length spans.now) (in_windows spans.now s) }
 {
     let mut w: Set = 0;
-    for i in 0..a.table.count as usize {
+    for i in 0..spans.len() {
         if in_window(spans[i], s) {
             w = sets::with(w, i);
         }
@@ -66,7 +67,8 @@ pub fn first_map(a: Framed, map: &mut [Set])
     ensures { Over (words (model_of a.table) (available (model_of a.table) 1)) 0 a.frame map.old map.new }
 {
     let spans = spans(a.table.rows);
+    let used = &spans[..a.table.count as usize];
     for s in 0..a.frame {
-        map[s as usize] = first_word(&a, &spans, s);
+        map[s as usize] = first_word(used, s);
     }
 }

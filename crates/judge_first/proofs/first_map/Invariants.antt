@@ -6,4 +6,4 @@ use Rattle.table.specs.Meaning.{model_of}
 use Rattle.judge_first.proofs.first_map.Given as goal
 
 abbrev pub invariant-loop-s : goal.invariant-loop-s
-invariant-loop-s l = let M = model_of l.a.table in Over (words M (window M)) 0 l.s l.initial.map l.map
+invariant-loop-s l = let M = model_of l.fn.a.table in Over (words M (window M)) 0 l.s l.initial.map l.map
