@@ -5,9 +5,7 @@ use Prim.Native.Nat.{ℕ, zero, suc, ◌+◌, ◌*◌, ◌<◌}
 use native.Mathlib.Omega.{arith}
 use lib.ListN.{length, get_or, drop}
 use lib.Seq.{drop-nil, drop-cons, get_or-drop}
-use Rattle.std.specs.List.{flat_map, range_with_len}
-use Rattle.std.proofs.lemmas.List.{length-map, get_or-map}
-use Rattle.std.proofs.lemmas.List.FromFn.{fill_by_all}
+use Rattle.std.specs.List.{flat_map}
 use Rattle.c_numbers.specs.Lent.{threes}
 
 module _ {A : Type 0} (f g h : A → ℕ) (d : A) where
@@ -17,12 +15,10 @@ module _ {A : Type 0} (f g h : A → ℕ) (d : A) where
   threes_joined [] = refl
   threes_joined (a ∷ l) = ap (λ (r : List ℕ). f a ∷ g a ∷ h a ∷ r) (threes_joined l)
 
-  -- the same of the numbers at each place in turn
-  pub threes_placed : (l : List A) (n : ℕ) → length l ≡ n
-      → flat_map (λ x. x) (map (λ i. let a = get_or l i d in f a ∷ g a ∷ h a ∷ []) (range_with_len 0 n)) ≡ threes f g h l
-  threes_placed l n e =
-      let each = fill_by_all (λ i. let a = get_or l i d in f a ∷ g a ∷ h a ∷ []) (map (λ a. f a ∷ g a ∷ h a ∷ []) l) n [] (length-map l _ ∙ e) (λ k m. get_or-map (λ a. f a ∷ g a ∷ h a ∷ []) l k d [] (omega arith)) in
-      ap (flat_map (λ x. x)) (sym each) ∙ threes_joined l
+  pub length_threes : (l : List A) → length (threes f g h l) ≡ 3 * length l
+  unfolding threes
+  length_threes [] = refl
+  length_threes (a ∷ l) = omega (arith, length_threes l)
 
   pub threes_append : (l m : List A) → threes f g h (l ++ m) ≡ threes f g h l ++ threes f g h m
   unfolding threes

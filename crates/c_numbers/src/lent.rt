@@ -1,8 +1,6 @@
 // A table in plain numbers, as it is lent and as it is given back.
-ghost use Rattle.std.specs.Prelude.{◌≡◌, ◌<◌, get_or};
+ghost use Rattle.std.specs.Prelude.{◌≡◌, ◌<◌};
 ghost use Rattle.table_row.specs.Limits.{most_rows};
-ghost use Rattle.table_row.specs.Row.{fields_of};
-ghost use Rattle.table_row.specs.Row.{no_row};
 ghost use Rattle.c_numbers.specs.Lent.{lent_row, lent_table, numbers_of};
 
 use std::array;
@@ -28,6 +26,7 @@ fn read_row(l: &[u16; NUMBERS], i: usize) -> Row
         period: l[at],
         execution: l[at + 1],
         deadline: l[at + 2],
+        ..table_row::no_row()
     }
 }
 
@@ -40,6 +39,7 @@ pub fn read_table(l: &[u16; NUMBERS]) -> Table
         depth: l[1],
         count: l[2],
         rows: array::from_fn(|i| read_row(l, i)),
+        ..table::no_table()
     }
 }
 
@@ -47,20 +47,15 @@ pub fn read_table(l: &[u16; NUMBERS]) -> Table
 pub fn numbers(t: Table) -> [u16; NUMBERS]
     ensures { result ≡ numbers_of t }
 {
-    // By place, since the array's own `map` took 0.2 µs more, a quarter of the time of an add.
-    let rows: [[u16; FIELDS]; ROWS] = array::from_fn(
-        |i: usize| -> [u16; FIELDS]
-            requires { i < most_rows }
-            ensures { result ≡ fields_of (get_or t.rows i no_row) }
-        {
-            let row = t.rows[i];
-            [row.period, row.execution, row.deadline]
-        },
-    );
     let mut all = [0; NUMBERS];
     all[0] = t.processors;
     all[1] = t.depth;
     all[2] = t.count;
-    all[HEAD..].copy_from_slice(rows.as_flattened());
+    for (i, row) in t.rows.iter().enumerate() {
+        let at = HEAD + FIELDS * i;
+        all[at] = row.period;
+        all[at + 1] = row.execution;
+        all[at + 2] = row.deadline;
+    }
     all
 }

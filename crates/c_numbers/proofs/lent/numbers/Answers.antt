@@ -1,23 +1,19 @@
--- m, x and the count, then three numbers of each row.
-use Rattle.std.proofs.Common.{◌∷◌, ℕ, List, ap, ◌∙◌, append-nil, rules, arith}
-use Rattle.std.specs.List.{flat_map}
+-- m, x and the count first, then one row more, then all.
+use Rattle.std.proofs.Common.{◌≡◌, refl, ◌+◌, ◌*◌, replicate, arith}
 use Rattle.table_row.specs.Limits.{most_rows}
-use Rattle.table_row.specs.Row.{no_row, fields_of}
-use Rattle.table.specs.Rows.{row_at}
-use Rattle.c_numbers.specs.Lent.{numbers_of}
-use Rattle.basics.proofs.Arrays.{from_fn_made}
-use Rattle.c_numbers.proofs.Threes.{threes_placed}
-use Rattle.c_numbers.proofs.Table.{T, C, D}
+use Rattle.c_numbers.proofs.Table.{head_written, row_written, table_written}
 use Rattle.c_numbers.proofs.lent.numbers.Goals as goal
 
+pub loop-i-init : goal.loop-i-init
+loop-i-init c = head_written c.args.t (omega arith) (replicate (3 + 3 * most_rows) 0) refl
+
+pub loop-i-preserved : goal.loop-i-preserved
+loop-i-preserved c =
+    let l = c.loop-i in
+    row_written c.args.t (omega arith) l.all l.i (omega arith) l.invariant
+
 pub returns : goal.returns
-unfolding numbers_of
 returns c =
-    let t = c.args.t in
-    let each = from_fn_made _ (λ i. fields_of (row_at t i)) _ (λ i y q k. search rules) _ _ c.from_fn-rows.ensures.items in
-    ap (λ (l : List ℕ). t.processors ∷ t.depth ∷ t.count ∷ l)
-    (append-nil _
-    ∙ c.copy_from_slice.ensures.after
-    ∙ c.as_flattened.ensures.value
-    ∙ ap (flat_map (λ l. l)) each
-    ∙ threes_placed T C D no_row t.rows most_rows (omega arith))
+    let l = c.loop-i in
+    let e : 3 + 3 * l.i ≡ 3 + 3 * most_rows = omega arith in
+    table_written c.args.t (omega arith) l.all (rw e at l.invariant)
