@@ -7,7 +7,9 @@ use c_numbers::{answers, lent};
 use refusal::Refusal;
 use table::Table;
 
-// The table, or the other one where it is refused; and no, entry, row.
+// The table, or the other one where it is refused; and no, entry, row. Inlined, and arm by arm: as a call, with the table chosen first,
+// it took an add a tenth longer.
+#[inline(always)]
 pub fn give(
     given: Result<Table, Refusal>,
     other: Table,
@@ -16,6 +18,14 @@ pub fn give(
 )
     ensures { Gives (given_or given other) (told_in given) res.new answer.new }
 {
-    *res = lent::numbers(given.unwrap_or(other));
-    *answer = answers::of_refusal(&given);
+    match given {
+        Ok(t) => {
+            *res = lent::numbers(t);
+            *answer = answers::of_refusal(&given);
+        }
+        Err(_) => {
+            *res = lent::numbers(other);
+            *answer = answers::of_refusal(&given);
+        }
+    }
 }
