@@ -2,12 +2,13 @@
 use mathlib.Core.Path.{◌≡◌, sym, ap, ap₂, ◌∙◌}
 use mathlib.Core.List.{List, [], ◌∷◌, ◌++◌, append-nil}
 use Rattle.std.proofs.Common.{append_assoc}
-use Prim.Native.Nat.{ℕ, suc, ◌+◌, ◌-◌, ◌≤◌, ◌<◌}
+use Prim.Native.Nat.{ℕ, zero, suc, ◌+◌, ◌-◌, ◌≤◌, ◌<◌}
+use native.Mathlib.Nat.{zero-add, sub-zero, zero-sub, suc-sub-suc}
 use native.Mathlib.Numerals.{add-one}
 use native.Mathlib.Omega.{arith}
 use borrow.Rule.Slice.PartMut.{put_mid, post_of, same_len_mid}
-use lib.ListN.{length, set, take, drop, replicate, drop_of_length-le, length-append, length-drop}
-use lib.Seq.{length-take-le, take_at, take-take}
+use lib.ListN.{length, set, take, drop, replicate, drop_of_length-le, length-append, length-drop, length-set}
+use lib.Seq.{paste, length-take-le, take_at, set_at, append_snoc, take-take}
 use Rattle.std.proofs.lemmas.List.{drop-take, take_more_set, take_rest}
 use Rattle.table_row.specs.declared.Row.{Row}
 use Rattle.table.specs.declared.Table.{Table}
@@ -18,6 +19,19 @@ use Rattle.table_edit.specs.Edit.{rows_of, with_rows, added, removed}
 
 abbrev zeros : ℕ → List Row
 zeros n = replicate n no_row
+
+drop_zeros : (i n : ℕ) → drop i (zeros n) ≡ zeros (n - i)
+drop_zeros zero n = rw (sub-zero n)
+drop_zeros (suc i) zero = rw (zero-sub (suc i))
+drop_zeros (suc i) (suc n) = rw (suc-sub-suc n i) (drop_zeros i n)
+
+-- a row stored behind l, where zeros stood
+behind : (l : List Row) (row : Row) (n w : ℕ) → length l ≡ n → n < w → set (l ++ drop n (zeros w)) n row ≡ (l ++ row ∷ []) ++ zeros (w - (n + 1))
+behind l row n w e h =
+    let one : w - n ≡ suc (w - (n + 1)) = omega arith in
+    ap (λ (z : List Row). set (l ++ z) n row) (drop_zeros n w ∙ ap zeros one)
+    ∙ set_at l no_row (zeros (w - (n + 1))) row n e
+    ∙ sym (append_snoc l row (zeros (w - (n + 1))))
 
 -- the places from n on are filled
 cleared : (l zs : List Row) (n : ℕ) (z : Row) → length l ≡ most_rows → n ≤ most_rows → z ≡ no_row
@@ -41,15 +55,31 @@ module _ (t : Table) (full : length t.rows ≡ most_rows) where
   pub length_added : (row : Row) → t.count ≤ most_rows → length (rows_of t ++ row ∷ []) ≡ t.count + 1
   length_added row h = omega (arith, length-append (rows_of t) (row ∷ []), length_rows h)
 
-  -- the row is stored behind the others
-  pub with_row : (row z : Row) (zs : List Row) → let n = t.count + 1 in let l = set t.rows t.count row in
-      t.count < most_rows → z ≡ no_row → length l ≡ length t.rows → zs ≡ replicate (length (take (length l - n) (drop n l))) z
+  -- the row is stored behind a copy of the rows, in room that held zeros
+  behind_rows : (row : Row) → t.count < most_rows
+      → set (paste (zeros most_rows) 0 (drop 0 t.rows) t.count) t.count row ≡ (rows_of t ++ row ∷ []) ++ zeros (most_rows - (t.count + 1))
+  behind_rows row h =
+      ap (λ (k : ℕ). set (rows_of t ++ drop k (zeros most_rows)) t.count row) (zero-add t.count)
+      ∙ behind (rows_of t) row t.count most_rows (length_rows (omega arith)) h
+
+  pub with_row : (row : Row) (z kept : List Row) (n : ℕ) → t.count < most_rows → n ≡ t.count → z ≡ zeros most_rows → kept ≡ paste z 0 (drop 0 t.rows) n
+      → table_by (beside_of t) (t.count + 1) (set kept n row) ≡ added t row
+  unfolding added
+  with_row row z kept n h p q r =
+      table_of (rows_of t ++ row ∷ []) _ (t.count + 1) (length_added row (omega arith))
+      (rw (r, q, p) (behind_rows row h))
+
+  -- the row is stored behind the others in their own room, and the places past it are filled
+  pub row_put : (row z : Row) (l zs : List Row) → let n = t.count + 1 in
+      t.count < most_rows → z ≡ no_row → zs ≡ replicate (length (take (length l - n) (drop n l))) z → l ≡ set t.rows t.count row
       → table_by (beside_of t) n (put_mid n (length l - n) l zs) ≡ added t row
   unfolding added
-  with_row row z zs h e g f =
+  row_put row z l zs h e f p =
+      let long = ap length p ∙ length-set t.rows t.count row ∙ full in
       table_of (rows_of t ++ row ∷ []) _ (t.count + 1) (length_added row (omega arith))
-      (cleared (set t.rows t.count row) zs (t.count + 1) z (g ∙ full) (omega arith) e f
-      ∙ ap (λ (k : List Row). k ++ zeros (most_rows - (t.count + 1))) (take_more_set t.rows t.count row (omega arith)))
+      (cleared l zs (t.count + 1) z long (omega arith) e f
+      ∙ ap (λ (k : List Row). k ++ zeros (most_rows - (t.count + 1)))
+      (ap (take (t.count + 1)) p ∙ take_more_set t.rows t.count row (omega arith)))
 
   pub length_removed : (i : ℕ) → i < t.count → t.count ≤ most_rows → length (take i (rows_of t) ++ drop (suc i) (rows_of t)) ≡ t.count - 1
   length_removed i h g =

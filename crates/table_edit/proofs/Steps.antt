@@ -4,7 +4,7 @@ use mathlib.Core.List.{[], ◌∷◌, ◌++◌}
 use Prim.Native.Nat.{ℕ, ◌+◌, ◌≤◌, ◌<◌}
 use native.Mathlib.Omega.{arith}
 use lib.ListN.{length}
-use borrow.Author.Tests.{lt-ltb, eq-eqb, ne_eqb}
+use borrow.Author.Tests.{lt-ltb, le-ltb, eq-eqb, ne_eqb}
 use Rattle.table_row.specs.declared.Row.{Row}
 use Rattle.table.specs.declared.Table.{Table}
 use Rattle.table_row.specs.Limits.{most_processors, most_depths, most_rows}
@@ -14,7 +14,8 @@ use Rattle.table.specs.Check.{Numbers, refused, check_of}
 use Rattle.basics.proofs.Range.{inside_of, inside_not}
 use Rattle.table.proofs.Accepted.{accepted}
 use Rattle.table.proofs.Steps.{rows_count}
-use Rattle.refusal.proofs.Order.{first_next}
+use Rattle.refusal.specs.Order.{first}
+use Rattle.refusal.proofs.Order.{first_next, first_here}
 use Rattle.table_edit.specs.Edit.{rows_of, added, removed, no_such_row, edited, add_of, remove_of}
 use Rattle.table_edit.proofs.Rows.{length_added}
 
@@ -26,6 +27,12 @@ keeps t r result f = rw (ne_eqb _ _ f)
 pub gives : (t : Table) (r : Numbered) (result : Table) → r.no ≡ 0 → record { refusal = r; table = result } ≡ edited t r result
 unfolding edited
 gives t r result e = rw (eq-eqb _ _ e)
+
+-- the first refusal is the answer
+stops : (t result : Table) (p r s : Numbered) → r ≡ p → (r.no ≡ 0 → ⊥) → record { refusal = r; table = t } ≡ edited t (first p s) result
+stops t result p r s e f =
+    keeps t r result f
+    ∙ ap (λ (x : Numbered). edited t x result) (first_here r s f ∙ ap (λ (x : Numbered). first x s) e)
 
 module _ (t : Table) (row : Row) where
   -- "so a 33rd row .. is 3"
@@ -49,6 +56,12 @@ module _ (t : Table) (row : Row) where
   add_settled e = rw (← first_next (check_of t).refusal (check_of (added t row)).refusal e)
 
 module _ (t : Table) (index : ℕ) where
+  pub remove_none : (check_of t).refusal.no ≡ 0 → t.count ≤ index → record { refusal = refuse 18; table = t } ≡ remove_of t index
+  unfolding remove_of no_such_row
+  remove_none e h =
+      stops t (removed t index) (no_such_row t index) (refuse 18) (check_of (removed t index)).refusal (rw (le-ltb _ _ h)) (λ z. omega arith)
+      ∙ ap (λ (x : Numbered). edited t x (removed t index)) (first_next (check_of t).refusal _ e)
+
   pub remove_settled : (check_of t).refusal.no ≡ 0 → index < t.count
       → edited t (check_of (removed t index)).refusal (removed t index) ≡ remove_of t index
   unfolding remove_of no_such_row
