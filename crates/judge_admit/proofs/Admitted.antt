@@ -31,6 +31,12 @@ module _ (t : Table) (a b : ℕ) where
   unfolding admit_of
   rejects r = rw (ne_eqb (check_of t).refusal.no 0 (λ (z : (check_of t).refusal.no ≡ 0). omega (arith, r.number)))
 
+  pub admit_refused : (r : Numbered) → refused_by r ≡ check_of t → refused_by r ≡ admit_of t a b
+  admit_refused r e =
+      let rejected : Rejected (check_of t) =
+      ⊎_elim (λ f. absurd (omega (arith, f.0.frame_low, ap (λ (c : Numbers). c.frame) e))) (λ q. q) (outcome t) in
+      e ∙ sym (rejects rejected)
+
   -- every table with two lists is admitted, or refused
   pub admit_outcome : (Admitted t a b (admit_of t a b).frame × ((admit_of t a b).refusal ≡ none)) ⊎ Rejected (admit_of t a b)
   admit_outcome = ⊎_elim (λ f. fine f.0 f.1) (λ r. inr (rw (rejects r) r)) (outcome t)
