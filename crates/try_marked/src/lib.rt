@@ -147,6 +147,7 @@ fn row_from(l: [u16; 3]) -> Row
         period,
         execution,
         deadline,
+        ..table_row::no_row()
     }
 }
 
@@ -162,6 +163,7 @@ pub fn table_from(processors: u16, depth: u16, count: u16, rows: [[u16; 3]; 4]) 
         depth,
         count,
         rows: room,
+        ..table::no_table()
     }
 }
 
