@@ -89,11 +89,17 @@ pub fn check_out(root: &Path, commit: &str, tree: &Path) -> Result<(), String> {
     output(git(root, &["worktree", "add", "--quiet", "--force", "--detach"]).arg(tree).arg(commit)).map(drop)
 }
 
+/// A folder's path as one name: hyphens first, which are doubled, so that no two paths have the same name. There is no percent sign in
+/// it: in a folder with one, lld cannot open what it is to write.
+fn name_of(folder: &str) -> String {
+    folder.replace('-', "--").replace('/', "-_")
+}
+
 /// Where commits are checked out and servers are built: outside the tree, since `rt ci` looks through all of it and refuses the
 /// sources of another one. The folder's name has the path of git's own, so that each tree has its own.
 pub fn rooms(root: &Path) -> Result<PathBuf, String> {
     output(&mut git(root, &["rev-parse", "--absolute-git-dir"]))
-        .map(|folder| env::temp_dir().join("awelodrun-against").join(folder.replace('/', "-")))
+        .map(|folder| env::temp_dir().join("awelodrun-against").join(name_of(&folder)))
 }
 
 /// The crate of the library, by what crates.txt lists: its name stands first, and its kind may follow.
@@ -292,6 +298,16 @@ mod tests {
             let mut times = [0; 64];
             PLACES.iter().for_each(|place| times[place.next_multiple_of(step) % 64] += 1);
             assert!((0..64).all(|place| times[place] == if place % step == 0 { step / 4 } else { 0 }));
+        }
+    }
+
+    #[test]
+    fn two_folders_have_two_names() {
+        assert_eq!(name_of("/a/b-c"), "-_a-_b--c");
+        let folders = ["/a/b", "/a-b", "/a-_b", "/a--b", "/a-/b", "/a/-b", "/a_b", "-_a/b"];
+        let names = folders.map(name_of);
+        for (i, name) in names.iter().enumerate() {
+            assert!(!name.contains('/') && !names[..i].contains(name), "{name}");
         }
     }
 
