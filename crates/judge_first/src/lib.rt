@@ -1,13 +1,13 @@
 // The map of depth 1, slot by slot.
 #![tactic(auto)]
 
-ghost use Rattle.std.specs.Prelude.{◌≡◌, ℕ, ◌%◌, ◌≤◌, ◌<◌, ltb, length, get_or, map};
+ghost use Rattle.std.specs.Prelude.{◌≡◌, ℕ, ◌%◌, ◌≤◌, ◌<◌, ltb, length, get_or};
 ghost use Rattle.basics.specs.Over.{Over};
 ghost use Rattle.model.specs.Depths.{available};
 ghost use Rattle.sets.specs.Word.{word, words};
 ghost use Rattle.table_row.specs.Limits.{most_rows};
 ghost use Rattle.table.specs.Meaning.{model_of};
-ghost use Rattle.judge_first.specs.Spans.{span_by, no_span, in_windows};
+ghost use Rattle.judge_first.specs.Spans.{span_by, no_span, SpansOf, in_windows};
 
 use sets::Set;
 use table::framed::Framed;
@@ -30,10 +30,18 @@ fn span_of(row: Row) -> Span
     }
 }
 
-fn spans(rows: [Row; ROWS]) -> [Span; ROWS]
-    ensures { result ≡ map span_by rows }
+// The spans of the rows that matter, and zeros past them: to fill all 32 took a small table longer than its map.
+fn spans(a: Framed) -> [Span; ROWS]
+    ensures { SpansOf a.table a.table.count result }
 {
-    rows.map(span_of)
+    let mut all = [Span {
+        period: 0,
+        deadline: 0,
+    }; ROWS];
+    for (i, row) in a.table.rows[..a.table.count as usize].iter().enumerate() {
+        all[i] = span_of(*row);
+    }
+    all
 }
 
 // Whether slot s is in the window of a job of the row.
@@ -66,7 +74,7 @@ pub fn first_map(a: Framed, map: &mut [Set])
     requires { a.frame ≤ length map.old }
     ensures { Over (words (model_of a.table) (available (model_of a.table) 1)) 0 a.frame map.old map.new }
 {
-    let spans = spans(a.table.rows);
+    let spans = spans(a);
     let used = &spans[..a.table.count as usize];
     for s in 0..a.frame {
         map[s as usize] = first_word(used, s);

@@ -14,11 +14,10 @@ first_word-requires-clause-positive c =
     let t = c.args.a.table in
     λ i l.
     let k : i < t.count = omega (arith, l, length-take t.count c.spans-spans.result) in
-    rw (c.spans-spans.ensures, used_at t i k) (omega (arith, f.some i k, f.room i k, f.apart i k))
+    rw (used_at c.spans-spans.ensures i k) (omega (arith, f.some i k, f.room i k, f.apart i k))
 
 pub loop-s-preserved : goal.loop-s-preserved
 loop-s-preserved c =
     let t = c.args.a.table in
     let e : length (take t.count c.spans-spans.result) ≡ t.count = omega (arith, length-take t.count c.spans-spans.result, c.args.a.accepted.count_high) in
-    over_more c.loop-s.invariant (omega arith) (omega arith)
-    (rw c.spans-spans.ensures at c.first_word.ensures ∙ windows_are t c.loop-s.s (rw c.spans-spans.ensures at e))
+    over_more c.loop-s.invariant (omega arith) (omega arith) (c.first_word.ensures ∙ windows_are c.spans-spans.ensures c.loop-s.s e)
