@@ -4,6 +4,7 @@
 ghost use Rattle.text_shift.specs.Shift.{Shifted};
 ghost use Rattle.text_shift.specs.Steps.{Entered, Through};
 
+use file_entries::Entry;
 use file_entries::limits::ENTRIES;
 use file_kinds::Kind;
 use sets::Set;
@@ -24,10 +25,11 @@ fn put_entry(
 )
     ensures { Entered file.now i map.old pins.old output.old map.new pins.new output.new }
 {
-    if file_kinds::kind_of(file_entries::kind_at(file, i)) == Some(Kind::Table) {
+    let entry = Entry::read(file, i);
+    if file_kinds::kind_of(entry.kind) == Some(Kind::Table) {
         let t = file_bodies::table_at(file, i);
         let v = judge::judge(t, map, pins);
-        text_lines::put_verdict(output, file_entries::number_at(file, i), v);
+        text_lines::put_verdict(output, entry.number, v);
     }
 }
 
