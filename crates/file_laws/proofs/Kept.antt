@@ -10,7 +10,7 @@ use Rattle.table.specs.declared.Table.{Table}
 use Rattle.file_entries.specs.Entries.{count_of, number_at, seek_of}
 use Rattle.file_contents.specs.File.{Entry, entry_at, entries_of}
 use Rattle.file_new.specs.New.{table_entry, new_entries, new_file}
-use Rattle.file_new.proofs.Entered.{entered_count, count_is}
+use Rattle.file_new.proofs.Entered.{entered_count, count_with_is}
 use Rattle.file_laws.proofs.Entries.{length_entries, entry_of}
 use Rattle.file_laws.proofs.Laid.{entries_back}
 use Rattle.file_laws.proofs.Puts.{put_other, put_length}
@@ -36,4 +36,4 @@ module _ (s : List ℕ) (number : ℕ) (t : Table) where
   -- as many entries as before, or one more
   pub put_count : length (new_entries s number t) ≡ cond (ltb (seek_of s number) (count_of s)) (count_of s) (count_of s + 1)
   unfolding new_entries
-  put_count = entered_count s (table_entry number t) ∙ count_is (seek_of s number) (count_of s)
+  put_count = entered_count s (table_entry number t) ∙ count_with_is (seek_of s number) (count_of s)

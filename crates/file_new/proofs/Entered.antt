@@ -1,5 +1,5 @@
 -- The entries that are written are the old file's with the new one put in by its number.
-use Rattle.std.proofs.Common.{◌≡◌, Bool, true, false, cond, Option, unwrap_or, ◌⊎◌, inl, inr, ℕ, zero, suc, ◌+◌, ◌≤◌, ◌<◌, zero-le, add-one, zero-add, eqb, ltb, List, [], ◌∷◌, map, length, take, refl, sym, ap, ap₂, ◌∙◌, eq-eqb, le-ltb, arith}
+use Rattle.std.proofs.Common.{◌≡◌, Bool, true, false, cond, Option, Some, None, unwrap_or, ◌⊎◌, inl, inr, ℕ, zero, suc, ◌+◌, ◌≤◌, ◌<◌, zero-le, add-one, zero-add, eqb, ltb, List, [], ◌∷◌, map, length, take, refl, sym, ap, ap₂, ◌∙◌, eq-eqb, le-ltb, arith}
 use Rattle.std.specs.List.{range_with_len}
 use Rattle.std.proofs.lemmas.List.{get_or-map, get_or-take, length-map, length-take-le}
 use Rattle.std.proofs.lemmas.List.FromFn.{fill_by_all, length-map-range_with_len}
@@ -17,7 +17,7 @@ use Rattle.file_write.specs.declared.Source.{Source}
 use Rattle.file_write.specs.declared.Source.TheVariants.{New}
 use Rattle.file_write.specs.Sources.{source_entry, entries_by}
 use Rattle.file_new.specs.New.{put_entry}
-use Rattle.file_new.specs.Steps.{source_of, Sources, new_count}
+use Rattle.file_new.specs.Steps.{source_of, Sources, count_with, new_count}
 
 -- entry j of the new file, whose entry i is the new one
 abbrev new_at : List ℕ → ℕ → Entry → ℕ → Entry
@@ -78,8 +78,17 @@ module _ (s : List ℕ) (i : ℕ) (new : Entry) where
           later (inr l) n = l
 
 -- the number of entries, by whether the new one is among the old ones
-pub count_is : (i n : ℕ) → new_count n i ≡ cond (ltb i n) n (n + 1)
-count_is i n = refl
+pub count_with_is : (i n : ℕ) → count_with n i ≡ cond (ltb i n) n (n + 1)
+count_with_is i n = refl
+
+-- and `new_count` of what a search found gives the same
+pub count_is : (i n : ℕ) → new_count n (sought i n) ≡ cond (ltb i n) n (n + 1)
+unfolding sought
+count_is i n = go (ltb i n)
+  where
+    go : (t : Bool) → new_count n (cond t (Some i) None) ≡ cond t n (n + 1)
+    go true = refl
+    go false = refl
 
 -- the place of the new entry is where the search came to
 place_of_sought : (i n : ℕ) → i ≤ n → unwrap_or (sought i n) n ≡ i
@@ -95,7 +104,7 @@ module _ (s : List ℕ) (new : Entry) where
   place = seek_of s new.number
 
   abbrev many : ℕ
-  many = new_count (count_of s) place
+  many = count_with (count_of s) place
 
   put_run : map (new_at s place new) (range_with_len 0 many) ≡ put_entry (entries_of s) new
   unfolding entries_of seek_in
@@ -119,3 +128,15 @@ module _ (s : List ℕ) (new : Entry) where
   -- and as many as the code counts
   pub entered_count : length (put_entry (entries_of s) new) ≡ many
   entered_count = ap length (sym put_run) ∙ length-map-range_with_len (new_at s place new) 0 many
+
+  -- the same, counted by `new_count` of what the search found
+  abbrev sought_many : ℕ
+  sought_many = new_count (count_of s) (sought place (count_of s))
+
+  pub entered_sought : (sources : List Source) → Sources place sources → sought_many ≤ most_entries → entries_by s new (take sought_many sources) ≡ put_entry (entries_of s) new
+  entered_sought sources h few =
+      let e = count_is place (count_of s) in
+      ap (λ (k : ℕ). entries_by s new (take k sources)) e ∙ entered sources h (omega (arith, e))
+
+  pub sought_count : length (put_entry (entries_of s) new) ≡ sought_many
+  sought_count = entered_count ∙ sym (count_is place (count_of s))

@@ -11,7 +11,7 @@ use Rattle.refusal.specs.declared.Refusal.{Refusal}
 use Rattle.refusal.specs.Told.{told}
 use Rattle.refusal.proofs.Told.{number_some}
 use Rattle.file_entries.specs.Entries.{count_of, sought, seek_of}
-use Rattle.file_new.proofs.Entered.{entered_count, place_is}
+use Rattle.file_new.proofs.Entered.{entered_count, sought_count, place_is}
 use Rattle.refusal.specs.Refusal.{Numbered, refuse, none}
 use Rattle.table.specs.declared.Table.{Table}
 use Rattle.basics.specs.When.{when, unless}
@@ -22,7 +22,7 @@ use Rattle.basics.proofs.When.{when_passed, unless_passed}
 use Rattle.table.specs.Check.{table_refusal}
 use Rattle.file_check.specs.Check.{file_refusal}
 use Rattle.file_new.specs.New.{table_entry, new_entries, new_file, note_has, put_refusal}
-use Rattle.file_new.specs.Steps.{new_count, early_refusal, length_refusal}
+use Rattle.file_new.specs.Steps.{count_with, new_count, early_refusal, length_refusal}
 
 abbrev no : Numbered → ℕ
 no r = r.no
@@ -62,11 +62,19 @@ module _ (s : List ℕ) (number : ℕ) (t : Table) where
 
   -- how many entries the code counts, by the place that the search came to
   abbrev many : ℕ
-  many = new_count (count_of s) (unwrap_or (sought (seek_of s number) (count_of s)) (count_of s))
+  many = count_with (count_of s) (unwrap_or (sought (seek_of s number) (count_of s)) (count_of s))
 
   many_is : many ≡ length (new_entries s number t)
   unfolding new_entries
   many_is = rw (place_is s number) (sym (entered_count s (table_entry number t)))
+
+  -- how many `new_count` gives, by what the search found
+  abbrev sought_many : ℕ
+  sought_many = new_count (count_of s) (sought (seek_of s number) (count_of s))
+
+  sought_is : sought_many ≡ length (new_entries s number t)
+  unfolding new_entries
+  sought_is = sym (sought_count s (table_entry number t))
 
   -- the same, by what the code has at hand
   pub told_file : (r : Refusal) → told r ≡ file_refusal s → told r ≡ early_refusal s number t
@@ -86,6 +94,13 @@ module _ (s : List ℕ) (number : ℕ) (t : Table) where
 
         pub told_fine : many ≤ most_entries → none ≡ early_refusal s number t
         told_fine l = early_fine (rw (← f)) (rw (← g)) h (rw many_is at l)
+
+        -- and by what `new_count` gives
+        pub sought_full : most_entries < sought_many → refuse 11 ≡ early_refusal s number t
+        sought_full l = early_full (rw (← f)) (rw (← g)) h (rw sought_is at l)
+
+        pub sought_fine : sought_many ≤ most_entries → none ≡ early_refusal s number t
+        sought_fine l = early_fine (rw (← f)) (rw (← g)) h (rw sought_is at l)
 
   -- what it tells that none of these applies
   pub record Early : Type 0 where

@@ -1,5 +1,5 @@
--- For the proofs alone: the steps by which put comes to its new file and its refusal.
-use Rattle.std.specs.Prelude.{◌≡◌, cond, ℕ, ◌+◌, ◌<◌, List, Some, length, slice_get, leb, ltb, eqb}
+-- For the proofs alone: the steps by which put comes to its new file and its refusal; and a count that put doesn't take, `new_count`.
+use Rattle.std.specs.Prelude.{◌≡◌, cond, ℕ, ◌+◌, ◌<◌, List, Option, Some, None, length, slice_get, leb, ltb, eqb}
 use Rattle.refusal.specs.Refusal.{Numbered, refuse, none}
 use Rattle.table.specs.declared.Table.{Table}
 use Rattle.basics.specs.When.{when, unless}
@@ -21,8 +21,13 @@ pub record Sources (i : ℕ) (l : List Source) : Type 0 where
   pub each : (j : ℕ) → j < most_entries → slice_get l j ≡ Some (source_of i j)
 
 -- how many entries there are with entry i replaced, or added after n
-abbrev pub new_count : ℕ → ℕ → ℕ
-new_count n i = cond (ltb i n) n (n + 1)
+abbrev pub count_with : ℕ → ℕ → ℕ
+count_with n i = cond (ltb i n) n (n + 1)
+
+-- how many there are where the new one has a place, whatever it is, and where it has none
+abbrev pub new_count : ℕ → Option ℕ → ℕ
+new_count n (Some i) = n
+new_count n None = n + 1
 
 -- "the file, the new table 1 to 7, 17, then 11 for a 65th entry"
 unfoldable pub early_refusal : List ℕ → ℕ → Table → Numbered

@@ -3,7 +3,7 @@
 
 ghost use Rattle.std.specs.Prelude.{◌≡◌};
 ghost use Rattle.refusal.specs.Told.{told_in};
-ghost use Rattle.file_new.specs.Steps.{source_of, Sources, new_count, early_refusal, length_refusal};
+ghost use Rattle.file_new.specs.Steps.{source_of, Sources, count_with, new_count, early_refusal, length_refusal};
 
 use file_entries::limits::{BYTES, ENTRIES};
 use file_kinds::Kind;
@@ -13,10 +13,20 @@ use std::array;
 use table::Table;
 
 // The number of entries with entry i replaced, or added after n.
-pub fn new_count(n: u16, i: u16) -> usize
-    ensures { result ≡ new_count n i }
+pub fn count_with(n: u16, i: u16) -> usize
+    ensures { result ≡ count_with n i }
 {
     if i < n { n as usize } else { n as usize + 1 }
+}
+
+// The same of a place that may be none: n where there is one, whatever it is, and else one more.
+pub fn new_count(n: u16, place: Option<u16>) -> usize
+    ensures { result ≡ new_count n place }
+{
+    match place {
+        Some(_) => n as usize,
+        None => count_with(n, n),
+    }
 }
 
 // The refusals that come before the new file's length: the file, the table, 17 and 11.
@@ -31,7 +41,7 @@ pub fn early_refusal(s: &[u8], number: u16, t: Table) -> Result<(), Refusal>
     }
     let count = file_entries::count(s);
     let place = file_entries::seek_of(s, number).unwrap_or(count);
-    let n = new_count(count, place);
+    let n = count_with(count, place);
     if ENTRIES < n {
         return Err(Rule::Entries.into());
     }
@@ -65,4 +75,24 @@ pub fn sources(i: u16) -> [Source; ENTRIES]
     ensures { Sources i result }
 {
     array::from_fn(|j| source_of(i, j as u16))
+}
+
+#[cfg(test)]
+mod tests {
+    use super::*;
+
+    // The count stays where there is a place, also one past the last entry, and is one more where there is none, past 16 bits too.
+    #[test]
+    fn counts_the_new_entry(rt: HostRuntime) {
+        for (n, place, want) in [
+            (3, Some(0), 3),
+            (3, Some(2), 3),
+            (3, Some(7), 3),
+            (0, Some(0), 0),
+            (3, None, 4),
+            (65_535, None, 65_536),
+        ] {
+            assert_eq!(rt; new_count(n, place), want, "of {n} entries");
+        }
+    }
 }

@@ -18,7 +18,7 @@ use Rattle.file_bytes.proofs.Overs.{over_start, take_over}
 use Rattle.table_row.specs.Limits.{most_rows}
 use Rattle.file_entries.specs.Limits.{most_entries}
 use Rattle.file_kinds.specs.Kinds.{table_kind}
-use Rattle.file_entries.specs.Entries.{count_of, seek_of}
+use Rattle.file_entries.specs.Entries.{count_of, sought, seek_of}
 use Rattle.file_contents.specs.File.{entry_by, encode}
 use Rattle.file_write.specs.declared.Source.{Source}
 use Rattle.file_write.specs.declared.Parts.{Parts}
@@ -28,9 +28,9 @@ use Rattle.file_bodies.specs.Body.{table_bytes}
 use Rattle.file_bodies.proofs.Writing.{length_table}
 use Rattle.file_new.specs.New.{table_entry, new_entries, new_file, put_refusal}
 use Rattle.file_put.specs.Put.{Written, written, put_of, put_out, Puts}
-use Rattle.file_new.specs.Steps.{Sources, new_count, early_refusal, length_refusal}
+use Rattle.file_new.specs.Steps.{Sources, count_with, new_count, early_refusal, length_refusal}
 use Rattle.file_put.specs.Writing.{written_of, written_over, Writes}
-use Rattle.file_new.proofs.Entered.{entered, entered_count}
+use Rattle.file_new.proofs.Entered.{entered, entered_count, count_is}
 use Rattle.file_new.proofs.Steps.{put_early, put_late, length_is_fine}
 
 abbrev no : Numbered → ℕ
@@ -56,16 +56,24 @@ module _ (file before : List ℕ) (len : ℕ) (l : len ≡ length file) where
       record { answer = rw n (ap₂ answer is l); output = rw n o }
 
 -- the new file, by what the code works out
-pub file_is : (s : List ℕ) (number : ℕ) (t : Table) (p : Parts) (b : List ℕ) (n : ℕ) (sources : List Source)
-    → p.old.now ≡ s → held p.new ≡ entry_by table_kind number b → p.sources.now ≡ take n sources → b ≡ table_bytes t → n ≡ new_count (count_of s) (seek_of s number)
+pub file_of_parts : (s : List ℕ) (number : ℕ) (t : Table) (p : Parts) (b : List ℕ) (n : ℕ) (sources : List Source)
+    → p.old.now ≡ s → held p.new ≡ entry_by table_kind number b → p.sources.now ≡ take n sources → b ≡ table_bytes t → n ≡ count_with (count_of s) (seek_of s number)
     → Sources (seek_of s number) sources → length (new_entries s number t) ≤ most_entries
     → encode (entries_in p) ≡ new_file s number t
 unfolding new_file new_entries
-file_is s number t p b n sources old new list body many h few =
+file_of_parts s number t p b n sources old new list body many h few =
     let e = entered_count s (table_entry number t) in
     (λ k. encode (entries_by (old k) (new k) (list k)))
     ∙ (λ k. encode (entries_by s (entry_by table_kind number (body k)) (take (many k) sources)))
     ∙ ap encode (entered s (table_entry number t) sources h (omega arith))
+
+-- and with the count of what the search found
+pub file_is : (s : List ℕ) (number : ℕ) (t : Table) (p : Parts) (b : List ℕ) (n : ℕ) (sources : List Source)
+    → p.old.now ≡ s → held p.new ≡ entry_by table_kind number b → p.sources.now ≡ take n sources → b ≡ table_bytes t → n ≡ new_count (count_of s) (sought (seek_of s number) (count_of s))
+    → Sources (seek_of s number) sources → length (new_entries s number t) ≤ most_entries
+    → encode (entries_in p) ≡ new_file s number t
+file_is s number t p b n sources old new list body many h few =
+    file_of_parts s number t p b n sources old new list body (many ∙ count_is (seek_of s number) (count_of s)) h few
 
 -- the body in the buffer
 pub buffer_is : (o : List ℕ) (t : Table) → length t.rows ≡ most_rows → t.count ≤ most_rows → most_body ≤ length o → take (body_length t.count) (over o 0 (table_bytes t)) ≡ table_bytes t

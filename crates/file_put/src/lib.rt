@@ -40,6 +40,6 @@ pub fn put(s: &[u8], number: u16, t: Table, out: &mut [u8]) -> Result<u32, Refus
     let count = file_entries::count(s);
     let place = file_entries::seek_of(s, number).unwrap_or(count);
     let list = file_new::sources(place);
-    let sources = &list[..file_new::new_count(count, place)];
+    let sources = &list[..file_new::count_with(count, place)];
     write(out, Parts::new(s, new, sources))
 }

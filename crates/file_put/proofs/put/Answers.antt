@@ -13,11 +13,11 @@ use Rattle.file_bodies.specs.Body.{table_bytes}
 use Rattle.file_check.proofs.Fine.{file_is_fine}
 use Rattle.file_contents.specs.File.{Entry as FileEntry}
 use Rattle.file_new.specs.New.{table_entry, new_entries}
-use Rattle.file_new.specs.Steps.{Sources, new_count}
+use Rattle.file_new.specs.Steps.{Sources, count_with}
 use Rattle.file_new.proofs.Entered.{entered_count, place_is}
 use Rattle.file_new.proofs.Steps.{Early, early_is_fine}
-use Rattle.file_put.proofs.Outcomes.{file_is, buffer_is, puts_none, puts_file}
-use Rattle.file_put.proofs.put.Goals.{After-row_place, After-new_count, After-sources-list, In_ok-early_refusal}
+use Rattle.file_put.proofs.Outcomes.{file_of_parts, buffer_is, puts_none, puts_file}
+use Rattle.file_put.proofs.put.Goals.{After-row_place, After-count_with, After-sources-list, In_ok-early_refusal}
 use Rattle.file_put.proofs.put.Goals as goal
 
 early : (c : In_ok-early_refusal) → Early c.args.s.now c.args.number c.args.t
@@ -45,7 +45,7 @@ place_of s number e f g = e ∙ ap₂ unwrap_or f g ∙ place_is s number
 
 -- the number of entries of the new file
 many : In_ok-early_refusal → ℕ
-many c = let s = c.args.s.now in new_count (count_of s) (seek_of s c.args.number)
+many c = let s = c.args.s.now in count_with (count_of s) (seek_of s c.args.number)
 
 many_few : (c : In_ok-early_refusal) → many c ≤ most_entries
 unfolding many new_entries
@@ -53,10 +53,10 @@ many_few c =
     let e = (early c).few in
     omega (arith, entered_count c.args.s.now (table_entry c.args.number c.args.t))
 
-many_is : (c : After-new_count) → let s = c.args.s.now in c.new_count.result ≡ new_count (count_of s) (seek_of s c.args.number)
+many_is : (c : After-count_with) → let s = c.args.s.now in c.count_with.result ≡ count_with (count_of s) (seek_of s c.args.number)
 many_is c =
     let n = c.count-count.ensures in
-    c.new_count.ensures ∙ ap₂ new_count n (place_of c.args.s.now c.args.number c.unwrap_or-place.ensures c.seek_of.ensures n)
+    c.count_with.ensures ∙ ap₂ count_with n (place_of c.args.s.now c.args.number c.unwrap_or-place.ensures c.seek_of.ensures n)
 
 -- and where each comes from
 held : (c : After-sources-list) → Sources (seek_of c.args.s.now c.args.number) c.sources-list.result
@@ -89,7 +89,7 @@ pub slice_bounds-sources-end : goal.slice_bounds-sources-end
 unfolding many
 slice_bounds-sources-end c =
     let at = goal.at.slice_bounds-sources-end c in
-    let n = many_is at.After-new_count in
+    let n = many_is at.After-count_with in
     let m = many_few at.In_ok-early_refusal in
     sym (length-take-le _ c.sources-list.result (omega arith))
 
@@ -111,5 +111,5 @@ returns c =
     let at = goal.at.returns c in
     let a = c.args in
     let p = c.new.ensures in
-    let is = file_is a.s.now a.number a.t c.new.result _ _ _ p.old p.new p.sources (body_is at.After-row_place) (many_is at.After-new_count) (held at.After-sources-list) (early at.In_ok-early_refusal).few in
+    let is = file_of_parts a.s.now a.number a.t c.new.result _ _ _ p.old p.new p.sources (body_is at.After-row_place) (many_is at.After-count_with) (held at.After-sources-list) (early at.In_ok-early_refusal).few in
     puts_file _ _ _ _ _ _ c.in_ok-early_refusal.ensures (rw is at c.write.ensures)
