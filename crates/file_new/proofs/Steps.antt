@@ -68,14 +68,6 @@ module _ (s : List ℕ) (number : ℕ) (t : Table) where
   unfolding new_entries
   many_is = rw (place_is s number) (sym (entered_count s (table_entry number t)))
 
-  -- how many `new_count` gives, by what the search found
-  abbrev sought_many : ℕ
-  sought_many = new_count (count_of s) (sought (seek_of s number) (count_of s))
-
-  sought_is : sought_many ≡ length (new_entries s number t)
-  unfolding new_entries
-  sought_is = sym (sought_count s (table_entry number t))
-
   -- the same, by what the code has at hand
   pub told_file : (r : Refusal) → told r ≡ file_refusal s → told r ≡ early_refusal s number t
   told_file r e = e ∙ early_file (rw (← e) (number_some r.rule))
@@ -95,12 +87,14 @@ module _ (s : List ℕ) (number : ℕ) (t : Table) where
         pub told_fine : many ≤ most_entries → none ≡ early_refusal s number t
         told_fine l = early_fine (rw (← f)) (rw (← g)) h (rw many_is at l)
 
-        -- and by what `new_count` gives
-        pub sought_full : most_entries < sought_many → refuse 11 ≡ early_refusal s number t
-        sought_full l = early_full (rw (← f)) (rw (← g)) h (rw sought_is at l)
+        -- and by `new_count` of what the search found
+        pub sought_full : most_entries < new_count (count_of s) (sought (seek_of s number) (count_of s)) → refuse 11 ≡ early_refusal s number t
+        unfolding new_entries
+        sought_full l = early_full (rw (← f)) (rw (← g)) h (rw (← sought_count s (table_entry number t)) at l)
 
-        pub sought_fine : sought_many ≤ most_entries → none ≡ early_refusal s number t
-        sought_fine l = early_fine (rw (← f)) (rw (← g)) h (rw sought_is at l)
+        pub sought_fine : new_count (count_of s) (sought (seek_of s number) (count_of s)) ≤ most_entries → none ≡ early_refusal s number t
+        unfolding new_entries
+        sought_fine l = early_fine (rw (← f)) (rw (← g)) h (rw (← sought_count s (table_entry number t)) at l)
 
   -- what it tells that none of these applies
   pub record Early : Type 0 where
